@@ -1,0 +1,11 @@
+pub mod Bits
+pub mod Held
+pub mod Lattice
+pub mod Layers
+pub mod Leastness
+pub mod Marking
+pub mod Queues
+pub mod Solving
+pub mod Tally
+pub mod Unions
+pub mod Waiting
