@@ -1,4 +1,3 @@
-pub mod Bits
 pub mod Held
 pub mod Lattice
 pub mod Layers
@@ -7,5 +6,4 @@ pub mod Marking
 pub mod Queues
 pub mod Solving
 pub mod Tally
-pub mod Unions
 pub mod Waiting

@@ -1,5 +1,4 @@
 pub mod Arrival
-pub mod Bits
 pub mod Latest
 pub mod Marks
 pub mod Numbers

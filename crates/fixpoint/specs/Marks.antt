@@ -2,7 +2,7 @@
 use mathlib.Core.Bool.{Bool, false, cond}
 use Prim.Native.Nat.{ℕ, _-_}
 use lib.Dec.{ltb}
-use Rattle.fixpoint.specs.Bits.{bit}
+use Rattle.bits.specs.Bits.{bit}
 use Rattle.fixpoint.specs.declared.marks.Marks.{Marks}
 
 -- whether i is marked: numbers below 64 in the low word, the others in the high word

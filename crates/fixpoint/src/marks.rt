@@ -4,7 +4,10 @@ ghost use mathlib.Core.Bool.{_&&_, _||_};
 ghost use Prim.Native.Nat.{ℕ};
 ghost use lib.Dec.{eqb, ltb};
 ghost use Rattle.fixpoint.specs.Marks.{marked};
-ghost use Rattle.fixpoint.specs.Worklist.{with-number, without-number};
+ghost use Rattle.fixpoint.specs.Worklist.{without-number};
+use bits::has_bit;
+use bits::with_bit;
+use bits::without_bit;
 
 #[derive(Clone, Copy)]
 pub struct Marks {
@@ -18,9 +21,9 @@ impl Marks {
         ensures { λ r. ⌜ r ≡ marked self i ⌝ }
     {
         if i < 64 {
-            (self.low >> i) % 2 == 1
+            has_bit(self.low, i)
         } else if i < 128 {
-            (self.high >> (i - 64)) % 2 == 1
+            has_bit(self.high, i - 64)
         } else {
             false
         }
@@ -32,9 +35,9 @@ impl Marks {
     {
         let mut more = self;
         if i < 64 {
-            more.low = self.low | (1 << i);
+            more.low = with_bit(self.low, i);
         } else if i < 128 {
-            more.high = self.high | (1 << (i - 64));
+            more.high = with_bit(self.high, i - 64);
         }
         more
     }
@@ -45,9 +48,9 @@ impl Marks {
     {
         let mut fewer = self;
         if i < 64 {
-            fewer.low = self.low & !(1 << i);
+            fewer.low = without_bit(self.low, i);
         } else if i < 128 {
-            fewer.high = self.high & !(1 << (i - 64));
+            fewer.high = without_bit(self.high, i - 64);
         }
         fewer
     }

@@ -12,10 +12,10 @@ use lib.Count.{ones, ones-le}
 use lib.Dec.{ltb, leb, lit≤}
 use lib.ListN.{length, getD}
 use Rattle.std.proofs.shelf.Tests.{and-left, and-right, and-from, cond-true, cond-false, lt-ltb, le-ltb, le-leb, lt-leb, cases-lt, cases-bool}
-use Rattle.fixpoint.specs.Bits.{bit}
+use Rattle.bits.specs.Bits.{bit}
 use Rattle.fixpoint.specs.System.{Laws}
 use Rattle.fixpoint.proofs.Lattice.{joins-below}
-use Rattle.fixpoint.proofs.Unions.{or-assoc, or-rises}
+use Rattle.bits.proofs.Unions.{or-assoc, or-rises}
 use Rattle.orders.specs.Plan.{door, reached, plan-equations}
 use Rattle.orders.specs.Rooms.{none, only, union, has, size}
 use Rattle.orders.specs.declared.rooms.RoomSet.{RoomSet}

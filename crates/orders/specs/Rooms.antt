@@ -5,7 +5,7 @@ use lib.Bits.{bitOr, or-lt}
 use lib.Count.{ones}
 use lib.Dec.{lit<, ltb}
 use Rattle.std.proofs.shelf.Bits.{mod-below}
-use Rattle.fixpoint.specs.Bits.{bit}
+use Rattle.bits.specs.Bits.{bit}
 use Rattle.orders.specs.declared.rooms.RoomSet.{RoomSet}
 
 -- no room

@@ -1,7 +1,7 @@
 -- The trailing zeros of a word that is not zero end at its lowest bit.
 use native.Mathlib.Omega.{arith}
 use lib.Count.{trailingZeros}
-use Rattle.fixpoint.proofs.Bits.{trailing-lowest}
+use Rattle.bits.proofs.Digits.{trailing-lowest}
 use Rattle.fixpoint.proofs.Marking.{marked-none, smallest-low, smallest-high}
 use Rattle.fixpoint.proofs.lowest.smallest.Needs as need
 

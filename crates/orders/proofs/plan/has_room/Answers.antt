@@ -3,7 +3,7 @@ use lib.Dec.{ltb}
 use native.Mathlib.Omega.{arith}
 use Rattle.std.proofs.shelf.Tests.{and-left, le-ltb}
 use Rattle.std.proofs.shelf.Ways.{tells}
-use Rattle.fixpoint.specs.Bits.{bit}
+use Rattle.bits.specs.Bits.{bit}
 use Rattle.orders.proofs.plan.has_room.Needs as need
 
 pub returns-then-i-ge12 : need.returns-then-i-ge12

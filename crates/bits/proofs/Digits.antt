@@ -2,17 +2,18 @@
 use mathlib.Core.Path.{_≡_, refl, sym, ap, _∙_}
 use mathlib.Core.Bool.{true, false, not, _&&_, _||_}
 use mathlib.Core.Logic.{⊎-elim}
-use Prim.Native.Nat.{ℕ, zero, suc, _+_, _-_, _*_, _/_, _%_, _^_, _<_}
+use Prim.Native.Nat.{ℕ, zero, suc, _+_, _-_, _*_, _/_, _%_, _^_, _≤_, _<_}
 use native.Mathlib.Nat.{pow-suc, div-one}
 use native.Mathlib.Numerals.{one-add}
 use native.Mathlib.Omega.{arith}
 use lib.Bits.{bitAnd, bitOr}
 use lib.Count.{trailingZeros}
 use lib.Dec.{eqb, eqb·suc-suc, eqb·zero-suc, eqb·suc-zero}
-use Rattle.std.proofs.shelf.Bits.{shr-shr, and-shr, or-shr, and-mod, or-mod, one-shl, pow-below}
-use Rattle.std.proofs.shelf.Tests.{cases-eq, eq-eqb, ne-eqb, eqb-false}
+use lib.Pow.{pow-mono}
+use Rattle.std.proofs.shelf.Bits.{shr-shr, and-shr, or-shr, and-mod, or-mod, one-shl, pow-below, pow-pos, div-below}
+use Rattle.std.proofs.shelf.Tests.{cases-eq, cases-lt, eq-eqb, ne-eqb, eqb-false}
 use Rattle.std.proofs.shelf.Ways.{tells}
-use Rattle.fixpoint.specs.Bits.{bit}
+use Rattle.bits.specs.Bits.{bit}
 
 -- the lowest digit
 pub bit-low : (w : ℕ) → bit w 0 ≡ eqb (w % 2) 1
@@ -130,8 +131,18 @@ trailing-lowest (suc k) w n h =
 pub bit-set : (w i j : ℕ) → i < 64 → bit (bitOr w (1 * 2 ^ i % 2 ^ 64)) j ≡ (bit w j || eqb j i)
 bit-set w i j h = rw (one-shl i 64 h) (bit-or w (2 ^ i) j ∙ ap (λ b. bit w j || b) (bit-pow i j))
 
+-- a word of k digits has no digit set above them
+pub bit-above : (k w j : ℕ) → w < 2 ^ k → k ≤ j → bit w j ≡ false
+unfolding bit
+bit-above k w j h l =
+    let zero-left : w / 2 ^ j < 1 = div-below w (2 ^ j) 1 (pow-pos j) (omega (arith, pow-mono {i = k} {j = j} l)) in
+    ne-eqb (w / 2 ^ j % 2) 1 (λ e. omega arith)
+
 -- `w & !(1 << i)` at 64 digits
-pub bit-clear : (w i j : ℕ) → i < 64 → j < 64 → bit (bitAnd w (2 ^ 64 - 1 - 1 * 2 ^ i % 2 ^ 64)) j ≡ (bit w j && not (eqb j i))
-bit-clear w i j h l =
+pub bit-clear : (w i j : ℕ) → w < 2 ^ 64 → i < 64 → bit (bitAnd w (2 ^ 64 - 1 - 1 * 2 ^ i % 2 ^ 64)) j ≡ (bit w j && not (eqb j i))
+bit-clear w i j b h =
     rw (one-shl i 64 h)
-    (bit-and w (2 ^ 64 - 1 - 2 ^ i) j ∙ ap (λ b. bit w j && b) (bit-complement 64 (2 ^ i) j (pow-below i 64 h) l ∙ ap not (bit-pow i j)))
+    (bit-and w (2 ^ 64 - 1 - 2 ^ i) j ∙ ⊎-elim
+    (λ (l : j < 64). ap (λ b. bit w j && b) (bit-complement 64 (2 ^ i) j (pow-below i 64 h) l ∙ ap not (bit-pow i j)))
+    (λ (l : 64 ≤ j). let e = bit-above 64 w j b l in grind (arith, tells))
+    (cases-lt j 64))
