@@ -14,7 +14,7 @@ use Rattle.fixpoint.specs.Numbers.{has, distinct}
 use Rattle.fixpoint.specs.Worklist.{with-number}
 use Rattle.fixpoint.specs.declared.arrival.ArrivalOrder.{ArrivalOrder}
 use Rattle.fixpoint.proofs.Queues.{waiting, queue-push, has-push, distinct-push}
-use Rattle.fixpoint.proofs.Tally.{tally-room, tally-with}
+use Rattle.fixpoint.proofs.Tally.{tally-le, tally-room, tally-with}
 use Rattle.fixpoint.proofs.arrival.ArrivalOrderWorklist.put.Needs as need
 
 -- i, which does not wait, is put
@@ -45,10 +45,10 @@ module _ (w : ArrivalOrder) (i : ℕ) (small : i < 128) (free : false ≡ marked
     agree-too j = marked-too j ∙ ap (λ b. b || eqb j i) (w .agree j) ∙ sym (has-push (waiting w) i j)
 
 pub add-self : need.add-self
-add-self c = omega (arith, room (c .args .self .now) (c .args .i) (omega arith) (c .if-not-has .ensures tt), c .args .self .now .inside)
+add-self c = omega (arith, c .args .self .now .counted, tally-le (marked (c .args .self .now .marks)) 128, c .args .self .now .inside)
 
 pub add-self-then-not-has : need.add-self-then-not-has
-add-self-then-not-has c = omega (arith, room (c .args .self .now) (c .args .i) (omega arith) (c .if-not-has .ensures tt))
+add-self-then-not-has c = omega (arith, c .args .self .now .counted, tally-le (marked (c .args .self .now .marks)) 128)
 
 pub ghost-self : need.ghost-self
 ghost-self c =

@@ -8,7 +8,7 @@ pub ghost-self : need.ghost-self
 ghost-self g c = (ap small (c .leave .ensures) ∙ small-without (c .from .result) (held (c .args .self .now .eight)) (c .args .self .now .fits), tt)
 
 pub ghost-self-in-Some-taken : need.ghost-self-in-Some-taken
-ghost-self-in-Some-taken g c = (ap small (c .leave-in-Some-taken .ensures) ∙ small-without (c .in-Some-taken .i) (held (c .args .self .now .eight)) (c .args .self .now .fits), tt)
+ghost-self-in-Some-taken g c = (ap small (c .leave-in-Some-taken .ensures) ∙ small-without _ (held (c .args .self .now .eight)) (c .args .self .now .fits), tt)
 
 pub returns-in-Some : need.returns-in-Some
 returns-in-Some g c =
