@@ -10,6 +10,8 @@ mod checks;
 #[cfg(test)]
 mod files;
 #[cfg(test)]
+mod instants;
+#[cfg(test)]
 mod views;
 #[cfg(test)]
 mod worklists;

@@ -1,0 +1,6 @@
+pub mod Clashes
+pub mod Deciding
+pub mod Masks
+pub mod Parts
+pub mod Reading
+pub mod Resolving

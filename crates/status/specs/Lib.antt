@@ -1,0 +1,6 @@
+pub mod Configuration
+pub mod Equations
+pub mod Solved
+pub mod Status
+pub mod StatusLaws
+pub mod Words
