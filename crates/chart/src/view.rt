@@ -131,7 +131,8 @@ impl<'a> Chart<'a> {
     pub fn signals(&self) -> usize
         ensures { λ r. ⌜ r ≡ length (decode (now (now (self .entry) .bytes)) .signals) ⌝ }
     {
-        usize::from(self.bytes[0])
+        let count = self.bytes[0];
+        usize::from(count)
     }
 
     // How many automata there are.
