@@ -2,7 +2,7 @@
 pub mod arrival;
 pub mod latest;
 pub mod lowest;
-mod marks;
+pub mod marks;
 pub mod solver;
 pub mod system;
 mod table;

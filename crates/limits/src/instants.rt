@@ -62,13 +62,20 @@ const RESOLVED_CYCLE: &[u8; 103] = b"\x03\
     \x00\x00\x00\0\0\0\0\0\0\0\x05\0\0\0\0\0\0\0\x00\0\0\0\0\0\0\0\x02\0\0\0\x00\
     \x01\x00\x00\0\0\0\0\0\0\0\x02\0\0\0\0\0\0\0\x01\0\0\0\0\0\0\0\x04\0\0\0\x00";
 
-// Where every automaton holds state 0, the unresolved signals and the statuses are these.
-fn check_statuses<W: Worklist + Drop>(
+// What an instant should come to: the unresolved signals, the first three statuses, and the transitions that fire.
+#[derive(Clone, Copy)]
+struct Outcome {
+    unresolved: u64,
+    statuses: [(bool, bool); 3],
+    fired: [bool; 2],
+}
+
+// The outcome where every automaton holds state 0.
+fn check_outcome<W: Worklist + Drop>(
     chart: Chart<'_>,
     inputs: u64,
     mut worklist: W,
-    unresolved: u64,
-    statuses: [(bool, bool); 3],
+    outcome: Outcome,
 ) -> Result<(), Fail> {
     let configuration = Configuration {
         states: [Some(0); 32],
@@ -79,31 +86,31 @@ fn check_statuses<W: Worklist + Drop>(
     }; 3];
     let system = status_system(chart, &configuration, inputs);
     match resolve(&system, &mut worklist, &mut area) {
-        Ok(mask) => check_eq(mask, unresolved)?,
+        Ok(mask) => check_eq(mask, outcome.unresolved)?,
         Err(_) => return Err(Fail::new("three places are enough")),
     }
-    for (status, (present, absent)) in area.iter().zip(statuses) {
+    for (status, (present, absent)) in area.iter().zip(outcome.statuses) {
         check_eq((status.present, status.absent), (present, absent))?;
     }
-    Ok(())
+    match system.fired(&area) {
+        Ok(set) => check_eq(
+            [set.has(0), set.has(1), set.has(127)],
+            [outcome.fired[0], outcome.fired[1], false],
+        ),
+        Err(_) => Err(Fail::new("three places are enough")),
+    }
 }
 
 // The same under two worklists. A place beyond the signals keeps both marks.
-fn check_instant(
-    file: &[u8],
-    inputs: u64,
-    unresolved: u64,
-    statuses: [(bool, bool); 3],
-) -> Result<(), Fail> {
+fn check_instant(file: &[u8], inputs: u64, outcome: Outcome) -> Result<(), Fail> {
     match check_file(file) {
         Ok(()) => {
-            check_statuses(view(file), inputs, LowestFirst::new(), unresolved, statuses)?;
-            check_statuses(
+            check_outcome(view(file), inputs, LowestFirst::new(), outcome)?;
+            check_outcome(
                 view(file),
                 inputs,
                 LatestFirst::new(LowestFirst::new()),
-                unresolved,
-                statuses,
+                outcome,
             )
         }
         Err(_) => Err(Fail::new("the file is refused")),
@@ -118,18 +125,46 @@ const UNKNOWN: (bool, bool) = (false, false);
 
 const BOTH: (bool, bool) = (true, true);
 
+// All signals are decided.
+fn decided(statuses: [(bool, bool); 3], fired: [bool; 2]) -> Outcome {
+    Outcome {
+        unresolved: 0,
+        statuses,
+        fired,
+    }
+}
+
+// The one signal stays unknown, and nothing fires.
+const UNDECIDED: Outcome = Outcome {
+    unresolved: 1,
+    statuses: [UNKNOWN, BOTH, BOTH],
+    fired: [false, false],
+};
+
 // What is shown present or absent step by step is decided, a cycle that the inputs break too.
 #[test]
 fn instants_that_decide() -> Result<(), Fail> {
-    check_instant(HANDOVER, 1, 0, [PRESENT, PRESENT, PRESENT])?;
-    check_instant(HANDOVER, 0, 0, [ABSENT, ABSENT, ABSENT])?;
-    check_instant(RESOLVED_CYCLE, 1, 0, [PRESENT, ABSENT, ABSENT])
+    check_instant(
+        HANDOVER,
+        1,
+        decided([PRESENT, PRESENT, PRESENT], [true, true]),
+    )?;
+    check_instant(
+        HANDOVER,
+        0,
+        decided([ABSENT, ABSENT, ABSENT], [false, false]),
+    )?;
+    check_instant(
+        RESOLVED_CYCLE,
+        1,
+        decided([PRESENT, ABSENT, ABSENT], [false, false]),
+    )
 }
 
 // What only supports or denies itself stays unknown, also where one solution would decide it.
 #[test]
 fn instants_that_do_not() -> Result<(), Fail> {
-    check_instant(SELF_SUPPORTING, 0, 1, [UNKNOWN, BOTH, BOTH])?;
-    check_instant(SELF_DENYING, 0, 1, [UNKNOWN, BOTH, BOTH])?;
-    check_instant(EITHER_WAY, 0, 1, [UNKNOWN, BOTH, BOTH])
+    check_instant(SELF_SUPPORTING, 0, UNDECIDED)?;
+    check_instant(SELF_DENYING, 0, UNDECIDED)?;
+    check_instant(EITHER_WAY, 0, UNDECIDED)
 }

@@ -7,18 +7,24 @@ ghost use denote.Ref.{now};
 ghost use lib.Dec.{eqb};
 ghost use lib.ListN.{length, take};
 ghost use Rattle.bits.specs.Bits.{bit};
+ghost use Rattle.std.specs.Results.{Cases};
 ghost use Rattle.chart.specs.Decoded.{decode};
 ghost use Rattle.status.specs.Configuration.{holds};
 ghost use Rattle.status.specs.Equations.{assigned, bears, emits, firing, guard, guarded, hears, input, live, mentions, status-equations, status-of, transition};
+ghost use Rattle.fixpoint.specs.Marks.{marked};
+ghost use Rattle.status.specs.Fired.{FiredUnder, has-fired};
 ghost use Rattle.status.specs.Status.{both, either, opposite};
 ghost use Rattle.status.specs.StatusLaws.{few-signals, status-laws};
 ghost use Rattle.status.specs.Words.{told};
 use crate::configuration::Configuration;
+use crate::fired::Fired;
 use crate::status::Status;
 use bits::has_bit;
 use bits::with_bit;
 use chart::signal::Kind;
 use chart::view::Chart;
+use fixpoint::marks::Marks;
+use fixpoint::solver::ShortArea;
 use fixpoint::system::System;
 
 // A chart, the configuration before the instant, and the mask of its inputs.
@@ -211,6 +217,34 @@ impl<'a, 'b> StatusSystem<'a, 'b> {
             }
         }
         emitted
+    }
+
+    // The transitions that fired under the first statuses of an area.
+    fn fired_set(&self, area: &[Status]) -> Marks
+        requires { ⌜ length (decode (now (now self .chart .bytes)) .signals) ≤ length (now area) ⌝ }
+        ensures { λ r. ⌜ ((k : ℕ) → marked r k ≡ has-fired (decode (now (now (self .entry) .chart .bytes))) (now (now (self .entry) .configuration) .states) (now (area .entry)) k) ⌝ }
+    {
+        let words = gather(area, self.chart.signals());
+        let mut set = Marks { low: 0, high: 0 };
+        for k in 0..self.chart.transitions() {
+            if self.live(k) & self.firing(words, k).present {
+                set = set.with(k);
+            }
+        }
+        set
+    }
+
+    // The transitions that fired under the statuses of an area.
+    pub fn fired(&self, area: &[Status]) -> Result<Fired, ShortArea>
+        ensures { λ r. ⌜ Cases r (λ f. FiredUnder (decode (now (now (self .entry) .chart .bytes))) (now (now (self .entry) .configuration) .states) (now (area .entry)) (marked (f .set))) (λ e. (e .needed ≡ length ((decode (now (now (self .entry) .chart .bytes))) .signals)) × (length (now (area .entry)) < e .needed)) ⌝ }
+    {
+        let n = self.chart.signals();
+        if area.len() < n {
+            return Err(ShortArea { needed: n });
+        }
+        Ok(Fired {
+            set: self.fired_set(area),
+        })
     }
 
     // Whether the guard of transition k mentions signal j.
