@@ -1,4 +1,6 @@
 // argos: checks chart files, shows them in words, and tells what they can reach.
+#![tactic(auto)]
+
 mod reach;
 mod show;
 mod words;

@@ -1,4 +1,6 @@
 // Words as sets of bits.
+#![tactic(auto)]
+
 ghost use Rattle.std.specs.Prelude.{◌≡◌, ℕ, not, ◌&&◌, ◌||◌, ◌==◌, nat_lt};
 ghost use Rattle.bits.specs.Bits.{bit};
 

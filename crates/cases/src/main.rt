@@ -1,4 +1,6 @@
 // cases: performs the first worked cases, and prints the line or the fault of each.
+#![tactic(auto)]
+
 use analysis::reach::{ReachSystem, reach_system};
 use analysis::stateset::StateSet;
 use chart::check::check;

@@ -1,4 +1,6 @@
 // Chart files: their check, and the view on a file that keeps the layout.
+#![tactic(auto)]
+
 ghost use Rattle.std.specs.Prelude.{◌≡◌, ◌+◌, ◌≤◌, length};
 ghost use Rattle.chart.specs.Places.{number4, number8};
 

@@ -34,7 +34,7 @@ impl<W> LatestFirst<W> {
 
 // The newest number of a table that does not wait below.
 fn newest_outside<W: Worklist>(eight: &Table, below: &W) -> Option<u8>
-    ensures { result ≡ newest_outside (waiting below.now) (take eight.now.len eight.now.slots) }
+    ensures { result ≡ newest_outside (W.waiting below.now) (take eight.now.len eight.now.slots) }
 {
     for at in (0..eight.len).rev() {
         let i = eight.slots[at];

@@ -1,4 +1,6 @@
 // Systems of equations, worklists, and one solver that ends in the least solution whatever the order of work.
+#![tactic(auto)]
+
 pub mod arrival;
 pub mod latest;
 pub mod lowest;

@@ -1,4 +1,6 @@
 // The limits of the libraries, as tests: each limit at its value and one above.
+#![tactic(auto)]
+
 #[cfg(test)]
 mod areas;
 #[cfg(test)]

@@ -1,4 +1,6 @@
 // One small system, solved under four orders of work: which rooms of a theatre can be reached from which.
+#![tactic(auto)]
+
 mod plan;
 mod recorder;
 mod report;

@@ -1,4 +1,6 @@
 // One instant's statuses: what each signal is, as the least solution of a system of equations.
+#![tactic(auto)]
+
 pub mod configuration;
 pub mod equations;
 pub mod fired;

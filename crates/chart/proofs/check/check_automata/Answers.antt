@@ -11,7 +11,7 @@ pub returns-then-bytes-place : goal.returns-then-bytes-place
 returns-then-bytes-place c =
     let bs = c.args.bytes.now in
     let good : ℕ → Bool = automaton_good c.args.bytes.now (c.args.at + 1) in
-    let n = c.in-ok-count.count - c.loop-k.k in
+    let n = c.in_ok-count.count - c.loop-k.k in
     let i = c.loop-k.k in
     sym (c.loop-k.invariant.0 ∙ records_cut 4 good BrokenAutomaton bs (c.args.at + 1) n i (omega arith) (omega arith))
 
@@ -27,18 +27,18 @@ pub loop-k-preserved : goal.loop-k-preserved
 loop-k-preserved c =
     let bs = c.args.bytes.now in
     let good : ℕ → Bool = automaton_good c.args.bytes.now (c.args.at + 1) in
-    let n = c.in-ok-count.count - c.loop-k.k in
+    let n = c.in_ok-count.count - c.loop-k.k in
     let i = c.loop-k.k in
-    let next = c.loop-k.invariant.0 ∙ records_more 4 good BrokenAutomaton bs (c.args.at + 1) n i (omega arith) (omega arith) (sym c.good-automaton.ensures ∙ c.if-not-good-automaton.false)
+    let next = c.loop-k.invariant.0 ∙ records_more 4 good BrokenAutomaton bs (c.args.at + 1) n i (omega arith) (omega arith) (sym c.good_automaton.ensures ∙ c.if-not-good_automaton.false)
     ∙ ap (λ m. records 4 good BrokenAutomaton bs (c.args.at + 1) m (i + 1)) (omega arith) in
     let states = c.loop-k.states + c.from-states.result in
     let more : states ≡ states_upto bs (c.args.at + 1) (i + 1) = cc (states_more bs (c.args.at + 1) i, c.loop-k.invariant.1.0, c.from-states.ensures) in
-    (next, (more, omega (arith, states_few bs (c.args.at + 1) i (sym c.good-automaton.ensures ∙ c.if-not-good-automaton.false))))
+    (next, (more, omega (arith, states_few bs (c.args.at + 1) i (sym c.good_automaton.ensures ∙ c.if-not-good_automaton.false))))
 
 pub returns : goal.returns
 returns c =
     let bs = c.args.bytes.now in
     let good : ℕ → Bool = automaton_good c.args.bytes.now (c.args.at + 1) in
-    let n = c.in-ok-count.count - c.loop-k.k in
+    let n = c.in_ok-count.count - c.loop-k.k in
     let i = c.loop-k.k in
     sym (c.loop-k.invariant.0 ∙ records_none 4 good BrokenAutomaton bs (c.args.at + 1) n i (omega arith) ∙ ap (λ m. Ok (c.args.at + 1 + 4 * m)) (omega arith))

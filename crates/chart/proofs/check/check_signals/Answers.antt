@@ -8,7 +8,7 @@ pub returns-then-bytes-at : goal.returns-then-bytes-at
 returns-then-bytes-at c =
     let bs = c.args.bytes.now in
     let good : ℕ → Bool = signal_good c.args.bytes.now in
-    let n = c.in-ok-count.count - c.loop-i.i in
+    let n = c.in_ok-count.count - c.loop-i.i in
     let i = c.loop-i.i in
     sym (c.loop-i.invariant ∙ records_cut 10 good BrokenSignal bs (1) n i (omega arith) (omega arith))
 
@@ -24,9 +24,9 @@ pub loop-i-preserved : goal.loop-i-preserved
 loop-i-preserved c =
     let bs = c.args.bytes.now in
     let good : ℕ → Bool = signal_good c.args.bytes.now in
-    let n = c.in-ok-count.count - c.loop-i.i in
+    let n = c.in_ok-count.count - c.loop-i.i in
     let i = c.loop-i.i in
-    let next = c.loop-i.invariant ∙ records_more 10 good BrokenSignal bs (1) n i (omega arith) (omega arith) (sym c.good-signal.ensures ∙ c.if-not-good-signal.false)
+    let next = c.loop-i.invariant ∙ records_more 10 good BrokenSignal bs (1) n i (omega arith) (omega arith) (sym c.good_signal.ensures ∙ c.if-not-good_signal.false)
     ∙ ap (λ m. records 10 good BrokenSignal bs (1) m (i + 1)) (omega arith) in
     next
 
@@ -34,6 +34,6 @@ pub returns : goal.returns
 returns c =
     let bs = c.args.bytes.now in
     let good : ℕ → Bool = signal_good c.args.bytes.now in
-    let n = c.in-ok-count.count - c.loop-i.i in
+    let n = c.in_ok-count.count - c.loop-i.i in
     let i = c.loop-i.i in
     sym (c.loop-i.invariant ∙ records_none 10 good BrokenSignal bs (1) n i (omega arith) ∙ ap (λ m. Ok (1 + 10 * m)) (omega arith))

@@ -8,7 +8,7 @@ pub returns-then-bytes-place : goal.returns-then-bytes-place
 returns-then-bytes-place c =
     let bs = c.args.bytes.now in
     let good : ℕ → Bool = transition_good c.args.bytes.now c.args.automata (c.args.at + 1) in
-    let n = c.in-ok-count.count - c.loop-i.i in
+    let n = c.in_ok-count.count - c.loop-i.i in
     let i = c.loop-i.i in
     sym (c.loop-i.invariant ∙ records_cut 31 good BrokenTransition bs (c.args.at + 1) n i (omega arith) (omega arith))
 
@@ -24,9 +24,9 @@ pub loop-i-preserved : goal.loop-i-preserved
 loop-i-preserved c =
     let bs = c.args.bytes.now in
     let good : ℕ → Bool = transition_good c.args.bytes.now c.args.automata (c.args.at + 1) in
-    let n = c.in-ok-count.count - c.loop-i.i in
+    let n = c.in_ok-count.count - c.loop-i.i in
     let i = c.loop-i.i in
-    let next = c.loop-i.invariant ∙ records_more 31 good BrokenTransition bs (c.args.at + 1) n i (omega arith) (omega arith) (sym c.good-transition.ensures ∙ c.if-not-good-transition.false)
+    let next = c.loop-i.invariant ∙ records_more 31 good BrokenTransition bs (c.args.at + 1) n i (omega arith) (omega arith) (sym c.good_transition.ensures ∙ c.if-not-good_transition.false)
     ∙ ap (λ m. records 31 good BrokenTransition bs (c.args.at + 1) m (i + 1)) (omega arith) in
     next
 
@@ -34,6 +34,6 @@ pub returns : goal.returns
 returns c =
     let bs = c.args.bytes.now in
     let good : ℕ → Bool = transition_good c.args.bytes.now c.args.automata (c.args.at + 1) in
-    let n = c.in-ok-count.count - c.loop-i.i in
+    let n = c.in_ok-count.count - c.loop-i.i in
     let i = c.loop-i.i in
     sym (c.loop-i.invariant ∙ records_none 31 good BrokenTransition bs (c.args.at + 1) n i (omega arith) ∙ ap (λ m. Ok (c.args.at + 1 + 31 * m)) (omega arith))

@@ -18,5 +18,5 @@ returns-then-same-name c =
 pub loop-j-preserved : goal.loop-j-preserved
 loop-j-preserved c =
     let test : ℕ → Bool = λ j. not (same_eight c.args.bytes.now (1 + 10 * j + 2) (1 + 10 * c.args.i + 2)) in
-    let yes : test c.loop-j.j ≡ true = ap not (sym c.same-name.ensures ∙ c.if-same-name.false) in
+    let yes : test c.loop-j.j ≡ true = ap not (sym c.same_name.ensures ∙ c.if-same_name.false) in
     all_below_more test c.loop-j.j c.loop-j.invariant yes

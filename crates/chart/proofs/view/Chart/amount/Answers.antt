@@ -13,5 +13,5 @@ returns-in-err-at c =
 pub returns : goal.returns
 returns c =
     let bs = c.args.self.now.bytes.now in
-    let h = c.in-ok-at.ensures in
-    ap Some (c.read-u32.ensures ∙ ap (λ p. number4 bs (p + 27)) h.1) ∙ sym (ap (option_map (λ (t : Transition). t.amount)) (transition_some bs c.args.i h.0))
+    let h = c.in_ok-at.ensures in
+    ap Some (c.read_u32.ensures ∙ ap (λ p. number4 bs (p + 27)) h.1) ∙ sym (ap (option_map (λ (t : Transition). t.amount)) (transition_some bs c.args.i h.0))

@@ -10,6 +10,6 @@ returns-in-err-at c = c.from-residual.ensures ∙ sym (automaton_none c.args.sel
 pub returns : goal.returns
 returns c =
     let bs = c.args.self.now.bytes.now in
-    let h = c.in-ok-at.ensures in
+    let h = c.in_ok-at.ensures in
     let owner = c.owner.ensures ∙ ap (λ p. owner_of (byte bs p) (byte bs (p + 1))) h.1 in
     (λ k. Some (record { owner = owner k; states = byte bs (h.1 k + 2); first = byte bs (h.1 k + 3) })) ∙ sym (automaton_some bs c.args.k h.0)

@@ -13,5 +13,5 @@ returns-in-err-at c =
 pub returns : goal.returns
 returns c =
     let bs = c.args.self.now.bytes.now in
-    let h = c.in-ok-at.ensures in
-    ap Some (c.read-u64.ensures ∙ ap (λ p. number8 bs (p + 19)) h.1) ∙ sym (ap (option_map (λ (t : Transition). t.emitted)) (transition_some bs c.args.i h.0))
+    let h = c.in_ok-at.ensures in
+    ap Some (c.read_u64.ensures ∙ ap (λ p. number8 bs (p + 19)) h.1) ∙ sym (ap (option_map (λ (t : Transition). t.emitted)) (transition_some bs c.args.i h.0))

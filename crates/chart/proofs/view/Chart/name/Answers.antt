@@ -8,4 +8,4 @@ returns-in-default c = named_beyond c.args.self.now.bytes.now c.args.i c.in-defa
 pub returns : goal.returns
 returns c =
     let h = c.in-Some.ensures in
-    named_within c.args.self.now.bytes.now c.args.i c.in-Some.at c.length-of-name.result h.0 h.1 h.2 c.length-of-name.ensures.0 c.length-of-name.ensures.1
+    named_within c.args.self.now.bytes.now c.args.i c.in-Some.at c.length_of_name.result h.0 h.1 h.2 c.length_of_name.ensures.0 c.length_of_name.ensures.1

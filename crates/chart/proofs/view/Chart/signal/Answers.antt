@@ -10,7 +10,7 @@ returns-in-err-at c = c.from-residual.ensures ∙ sym (signal_none c.args.self.n
 pub returns : goal.returns
 returns c =
     let bs = c.args.self.now.bytes.now in
-    let h = c.in-ok-at.ensures in
+    let h = c.in_ok-at.ensures in
     let kind = c.kind.ensures ∙ ap (λ p. kind_of (byte bs p)) h.1 in
     let combining = c.combining.ensures ∙ ap (λ p. combining_of (byte bs (p + 1))) h.1 in
     (λ k. Some (record { kind = kind k; combining = combining k })) ∙ sym (signal_some bs c.args.i h.0)

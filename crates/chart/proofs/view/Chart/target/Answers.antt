@@ -13,5 +13,5 @@ returns-in-err-at c =
 pub returns : goal.returns
 returns c =
     let bs = c.args.self.now.bytes.now in
-    let h = c.in-ok-at.ensures in
+    let h = c.in_ok-at.ensures in
     ap (λ p. Some (byte bs (p + 2))) h.1 ∙ sym (ap (option_map (λ (t : Transition). t.target)) (transition_some bs c.args.i h.0))

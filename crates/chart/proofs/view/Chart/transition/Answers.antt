@@ -9,9 +9,9 @@ returns-in-err-at c = c.from-residual.ensures ∙ sym (transition_none c.args.se
 pub returns : goal.returns
 returns c =
     let bs = c.args.self.now.bytes.now in
-    let h = c.in-ok-at.ensures in
-    let needed = c.read-u64.ensures ∙ ap (λ p. number8 bs (p + 3)) h.1 in
-    let forbidden = c.read-u64-2.ensures ∙ ap (λ p. number8 bs (p + 11)) h.1 in
+    let h = c.in_ok-at.ensures in
+    let needed = c.read_u64.ensures ∙ ap (λ p. number8 bs (p + 3)) h.1 in
+    let forbidden = c.read_u64-2.ensures ∙ ap (λ p. number8 bs (p + 11)) h.1 in
     let emitted = c.read-u64-3.ensures ∙ ap (λ p. number8 bs (p + 19)) h.1 in
     let amount = c.read-u32.ensures ∙ ap (λ p. number4 bs (p + 27)) h.1 in
     (λ k. Some (record {

@@ -17,7 +17,7 @@ returns-in-Some g c =
 
 pub returns-in-Some-taken : goal.returns-in-Some-taken
 returns-in-Some-taken g c =
-    let after = take_below g.W.Worklist.waiting (held c.args.self.now.eight) (held c.leave-in-Some-taken.new.self) c.in-Some-taken.i c.args.self.now.below c.take-taken.new.self c.in-default.ensures c.in-Some-taken.ensures c.leave-in-Some-taken.ensures in
+    let after = take_below g.W.Worklist.waiting (held c.args.self.now.eight) (held c.leave-in-Some-taken.new.self) c.in-Some-taken.i c.args.self.now.below c.take-taken.new.self c.in_default.ensures c.in-Some-taken.ensures c.leave-in-Some-taken.ensures in
     record { taken = after.0; layered = after.1 }
 
 pub returns-in-default-taken : goal.returns-in-default-taken
