@@ -15,7 +15,7 @@ pub struct ShortArea {
 // Sets the first n places to the bottom.
 fn clear<S: System>(system: &S, n: usize, area: &mut [S::Element])
     requires { n ≤ length area.old }
-    ensures { ((k : ℕ) → k < n → place (Equations system.now) area.new k ≡ (Equations system.now).bottom) × (drop n area.new ≡ drop n area.old) }
+    ensures { ((k : ℕ) → k < n → place (S.equations system.now) area.new k ≡ (S.equations system.now).bottom) × (drop n area.new ≡ drop n area.old) }
 {
     for i in 0..n {
         area[i] = system.bottom();
@@ -34,7 +34,7 @@ fn put_all<W: Worklist>(worklist: &mut W, n: usize)
 
 // Lets the readers of unknown i wait.
 fn put_readers<S: System, W: Worklist>(system: &S, worklist: &mut W, i: usize)
-    ensures { (j : ℕ) → W.waiting worklist.new j ≡ (W.waiting worklist.old j || readers (Equations system.now) i j) }
+    ensures { (j : ℕ) → W.waiting worklist.new j ≡ (W.waiting worklist.old j || readers (S.equations system.now) i j) }
 {
     for j in 0..system.count() {
         if system.reads(j, i) {
@@ -46,7 +46,7 @@ fn put_readers<S: System, W: Worklist>(system: &S, worklist: &mut W, i: usize)
 // Raises place i to what its equation gives.
 fn raise<S: System, W: Worklist>(system: &S, worklist: &mut W, area: &mut [S::Element], i: usize)
     requires { i < length area.old }
-    ensures { Raised (Equations system.now) i area.old (waiting worklist.old) area.new (waiting worklist.new) }
+    ensures { Raised (S.equations system.now) i area.old (W.waiting worklist.old) area.new (W.waiting worklist.new) }
 {
     let old = area[i];
     let value = system.join(old, system.evaluate(i, area));
@@ -62,8 +62,8 @@ pub fn solve<S: System, W: Worklist>(
     worklist: &mut W,
     area: &mut [S::Element],
 ) -> Result<(), ShortArea>
-    ensures refused { length area.old < (Equations system.now).count → (result ≡ Err (record { needed = (Equations system.now).count })) × (area.new ≡ area.old) × (worklist.new ≡ worklist.old) }
-    ensures solved { (Equations system.now).count ≤ length area.old → (result ≡ Ok tt) × Solved (Equations system.now) area.old area.new (waiting worklist.new) }
+    ensures refused { length area.old < (S.equations system.now).count → (result ≡ Err (record { needed = (S.equations system.now).count })) × (area.new ≡ area.old) × (worklist.new ≡ worklist.old) }
+    ensures solved { (S.equations system.now).count ≤ length area.old → (result ≡ Ok tt) × Solved (S.equations system.now) area.old area.new (W.waiting worklist.new) }
 {
     let n = system.count();
     if area.len() < n {
