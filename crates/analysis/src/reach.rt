@@ -260,7 +260,7 @@ pub fn reach<W: Worklist>(
     worklist: &mut W,
 ) -> Result<(), ShortArea>
     ensures refused { length area.old < unknowns (decode chart.entry.bytes.now) → (result ≡ Err (record { needed = unknowns (decode chart.entry.bytes.now) })) × (area.new ≡ area.old) × (worklist.new ≡ worklist.old) }
-    ensures solved { unknowns (decode chart.entry.bytes.now) ≤ length area.old → (result ≡ Ok tt) × Solved (reach_equations (decode chart.entry.bytes.now)) area.old area.new (waiting worklist.new) }
+    ensures solved { unknowns (decode chart.entry.bytes.now) ≤ length area.old → (result ≡ Ok tt) × Solved (reach_equations (decode chart.entry.bytes.now)) area.old area.new (W.waiting worklist.new) }
 {
     solve(&reach_system(chart), worklist, area)
 }

@@ -55,7 +55,7 @@ fn take_instant<W: Worklist>(
     line: &mut [u8],
 ) -> Result<Accepted, Fault>
     requires { count ≤ 1000000 }
-    ensures { MatchResult result (λ a. Takes (decode chart.now.bytes.now) (held count configuration.now.states) mask area.old area.new (waiting worklist.new) (worklist.new ≡ worklist.old) line.old line.new (Ok a.length) (held (count + 1) a.after.states)) (λ f. Takes (decode chart.now.bytes.now) (held count configuration.now.states) mask area.old area.new (waiting worklist.new) (worklist.new ≡ worklist.old) line.old line.new (Err f) (held count configuration.now.states)) }
+    ensures { MatchResult result (λ a. Takes (decode chart.now.bytes.now) (held count configuration.now.states) mask area.old area.new (W.waiting worklist.new) (worklist.new ≡ worklist.old) line.old line.new (Ok a.length) (held (count + 1) a.after.states)) (λ f. Takes (decode chart.now.bytes.now) (held count configuration.now.states) mask area.old area.new (W.waiting worklist.new) (worklist.new ≡ worklist.old) line.old line.new (Err f) (held count configuration.now.states)) }
 {
     let others = other_bits(chart, mask);
     if others != 0 {
@@ -118,7 +118,7 @@ impl<'a> Runner<'a> {
         line: &mut [u8],
     ) -> Result<usize, Fault>
         ensures same { self.new.chart.bytes.now ≡ self.old.chart.bytes.now }
-        ensures takes { Takes (decode self.old.chart.bytes.now) (held self.old.count self.old.configuration.states) mask area.old area.new (waiting worklist.new) (worklist.new ≡ worklist.old) line.old line.new result (held self.new.count self.new.configuration.states) }
+        ensures takes { Takes (decode self.old.chart.bytes.now) (held self.old.count self.old.configuration.states) mask area.old area.new (W.waiting worklist.new) (worklist.new ≡ worklist.old) line.old line.new result (held self.new.count self.new.configuration.states) }
         ensures stories { (story : List Told) → Behind self.old.chart.bytes.now story (held self.old.count self.old.configuration.states) → Behind self.new.chart.bytes.now (story ++ (answered mask (length area.old) (length line.old) (outcome_of (decode self.old.chart.bytes.now) (held self.old.count self.old.configuration.states) mask (length area.old) (length line.old)).reply ∷ [])) (held self.new.count self.new.configuration.states) }
     {
         let accepted = take_instant(

@@ -44,7 +44,7 @@ fn make<W: Worklist>(
 ) -> Option<Result<usize, Fault>>
     ensures same { runner.new.chart.bytes.now ≡ runner.old.chart.bytes.now }
     ensures makes { Makes (decode runner.old.chart.bytes.now) (held runner.old.count runner.old.configuration.states) call area.old area.new line.old line.new result (held runner.new.count runner.new.configuration.states) }
-    ensures worked { Worked (Solving (decode runner.old.chart.bytes.now) (held runner.old.count runner.old.configuration.states) call (length area.old)) (waiting worklist.new) (worklist.new ≡ worklist.old) }
+    ensures worked { Worked (Solving (decode runner.old.chart.bytes.now) (held runner.old.count runner.old.configuration.states) call (length area.old)) (W.waiting worklist.new) (worklist.new ≡ worklist.old) }
     ensures stories { (story : List Told) → Behind runner.old.chart.bytes.now story (held runner.old.count runner.old.configuration.states) → Behind runner.new.chart.bytes.now (story ++ (told_call (decode runner.old.chart.bytes.now) (held runner.old.count runner.old.configuration.states) call (length area.old) (length line.old) ∷ [])) (held runner.new.count runner.new.configuration.states) }
 {
     match call {
@@ -68,11 +68,11 @@ pub fn publish<S: System, W: Worklist>(
     area: &mut [Status],
     line: &mut [u8],
 ) -> Published
-    ensures table { Solves (equations table.now) cells.old cells.new result.table }
+    ensures table { Solves (S.equations table.now) cells.old cells.new result.table }
     ensures sets { Solves (reach_equations (decode runner.old.chart.bytes.now)) sets.old sets.new result.sets }
     ensures same { runner.new.chart.bytes.now ≡ runner.old.chart.bytes.now }
     ensures makes { Makes (decode runner.old.chart.bytes.now) (held runner.old.count runner.old.configuration.states) call area.old area.new line.old line.new result.answer (held runner.new.count runner.new.configuration.states) }
-    ensures worked { Worked ((((equations table.now).count ≤ length cells.old) ⊎ (unknowns (decode runner.old.chart.bytes.now) ≤ length sets.old)) ⊎ Solving (decode runner.old.chart.bytes.now) (held runner.old.count runner.old.configuration.states) call (length area.old)) (waiting worklist.new) (worklist.new ≡ worklist.old) }
+    ensures worked { Worked ((((S.equations table.now).count ≤ length cells.old) ⊎ (unknowns (decode runner.old.chart.bytes.now) ≤ length sets.old)) ⊎ Solving (decode runner.old.chart.bytes.now) (held runner.old.count runner.old.configuration.states) call (length area.old)) (W.waiting worklist.new) (worklist.new ≡ worklist.old) }
     ensures past { ∥ ((story : List Told) × Behind runner.new.chart.bytes.now story (held runner.new.count runner.new.configuration.states)) ∥₁ }
     ensures stories { (story : List Told) → Behind runner.old.chart.bytes.now story (held runner.old.count runner.old.configuration.states) → Behind runner.new.chart.bytes.now (story ++ (told_call (decode runner.old.chart.bytes.now) (held runner.old.count runner.old.configuration.states) call (length area.old) (length line.old) ∷ [])) (held runner.new.count runner.new.configuration.states) }
     ensures reached { unknowns (decode runner.old.chart.bytes.now) ≤ length sets.old → (story : List Told) → Behind runner.new.chart.bytes.now story (held runner.new.count runner.new.configuration.states) → StatesReached (decode runner.old.chart.bytes.now) sets.new runner.new.configuration.states × StoryPossible (decode runner.old.chart.bytes.now) sets.new story }

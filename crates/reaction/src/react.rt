@@ -30,7 +30,7 @@ pub fn react<W: Worklist>(
     area: &mut [Status],
 ) -> Result<Step, Fault>
     ensures refused { length area.old < length (decode chart.now.bytes.now).signals → (result ≡ Err (Solver (record { needed = length (decode chart.now.bytes.now).signals }))) × (area.new ≡ area.old) × (worklist.new ≡ worklist.old) }
-    ensures reacts { length (decode chart.now.bytes.now).signals ≤ length area.old → Reacts (decode chart.now.bytes.now) configuration.now.states inputs area.old area.new (waiting worklist.new) result }
+    ensures reacts { length (decode chart.now.bytes.now).signals ≤ length area.old → Reacts (decode chart.now.bytes.now) configuration.now.states inputs area.old area.new (W.waiting worklist.new) result }
 {
     let system = status_system(*chart, configuration, inputs);
     let unresolved = resolve(&system, worklist, area)?;

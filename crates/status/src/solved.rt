@@ -32,7 +32,7 @@ pub fn resolve<W: Worklist>(
     worklist: &mut W,
     area: &mut [Status],
 ) -> Result<u64, ShortArea>
-    ensures { MatchResult result (λ m. Resolved (decode system.now.chart.bytes.now) system.now.configuration.now.states system.now.mask area.old area.new (waiting worklist.new) m) (λ e. (length area.old < e.needed) × (e.needed ≡ length (decode system.now.chart.bytes.now).signals) × (area.new ≡ area.old) × (worklist.new ≡ worklist.old)) }
+    ensures { MatchResult result (λ m. Resolved (decode system.now.chart.bytes.now) system.now.configuration.now.states system.now.mask area.old area.new (W.waiting worklist.new) m) (λ e. (length area.old < e.needed) × (e.needed ≡ length (decode system.now.chart.bytes.now).signals) × (area.new ≡ area.old) × (worklist.new ≡ worklist.old)) }
 {
     solve(system, worklist, area)?;
     Ok(unknown_signals(area, system.count()))
