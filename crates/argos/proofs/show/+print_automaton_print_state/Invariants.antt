@@ -2,8 +2,8 @@
 use Rattle.std.proofs.Common.{◌+◌, ◌-◌, ◌*◌}
 use Rattle.argos.proofs.show.+print_automaton_print_state.Given as goal
 
-abbrev pub decreases-print-automaton : goal.decreases-print-automaton
-decreases-print-automaton l = 2 * (l.end - l.k) + 1
+abbrev pub decreases-print_automaton : goal.decreases-print_automaton
+decreases-print_automaton l = 2 * (l.end - l.k) + 1
 
-abbrev pub decreases-print-state : goal.decreases-print-state
-decreases-print-state l = 2 * (l.end - l.k)
+abbrev pub decreases-print_state : goal.decreases-print_state
+decreases-print_state l = 2 * (l.end - l.k)

@@ -7,7 +7,7 @@ use Rattle.chart.specs.Decoded.{decode, input}
 use Rattle.chart.proofs.Decoding.{few_signals}
 use Rattle.engine.proofs.Inputs.{inputs_all, set_too}
 use Rattle.engine.proofs.calls.inputs.Goals as goal
-use Rattle.engine.proofs.calls.inputs.Goals.{then-is-input, else-is-input}
+use Rattle.engine.proofs.calls.inputs.Goals.{then-is_input, else-is_input}
 
 pub loop-s-init : goal.loop-s-init
 loop-s-init c j = bit_zero j ∙ sym (and_left (ltb j 0) _ (le-ltb j 0 (omega arith)))
@@ -19,10 +19,10 @@ loop-s-preserved c j =
     let test : ℕ → Bool = input (decode bytes) in
     let s = c.loop-s.s in
     let small : s < 64 = omega (arith, c.signals-s-end.ensures) in
-    elim c.if-is-input.branch [
-      | then-is-input w ↦ ap (λ m. bit m j) w.mask-is
-          ∙ waits_more (λ _. false) test (bit c.loop-s.mask j) (bit w.with-bit-mask.result j) s j (sym c.is_input.ensures ∙ w.if-is-input.true) (c.loop-s.invariant j) (set_too _ _ j s small (w.with-bit-mask.ensures j))
-      | else-is-input w ↦ ap (λ m. bit m j) w.mask-is ∙ waits_less (λ _. false) test (bit c.loop-s.mask j) s j (sym c.is_input.ensures ∙ w.if-is-input.false) (c.loop-s.invariant j)
+    elim c.if-is_input.branch [
+      | then-is_input w ↦ ap (λ m. bit m j) w.mask-is
+          ∙ waits_more (λ _. false) test (bit c.loop-s.mask j) (bit w.with_bit-mask.result j) s j (sym c.is_input.ensures ∙ w.if-is_input.true) (c.loop-s.invariant j) (set_too _ _ j s small (w.with_bit-mask.ensures j))
+      | else-is_input w ↦ ap (λ m. bit m j) w.mask-is ∙ waits_less (λ _. false) test (bit c.loop-s.mask j) s j (sym c.is_input.ensures ∙ w.if-is_input.false) (c.loop-s.invariant j)
     ]
 
 pub returns : goal.returns

@@ -32,7 +32,7 @@ pub returns : goal.returns
 returns g c =
     let s = g.S.System.equations c.args.system.now in
     let waiting = g.W.Worklist.waiting in
-    let none = c.in-default.ensures in
+    let none = c.in_default.ensures in
     let rest : drop s.count c.clear.new.area ≡ drop s.count c.args.area.now = rw c.count-n.ensures at c.clear.ensures.1 in
     let solved = working_end s (g.S.System.laws c.args.system.now) g.row.S-Element.coded c.args.area.now c.clear.new.area c.loop-i.area
     (waiting c.loop-i.worklist) c.loop-i.invariant rest none.0 in

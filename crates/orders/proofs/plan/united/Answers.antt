@@ -3,8 +3,8 @@ use lib.Bits.{or_lt}
 use Rattle.orders.specs.PlanLaws.{same_bits}
 use Rattle.orders.proofs.plan.united.Goals as goal
 
-pub invariant-of-result : goal.invariant-of-result
-invariant-of-result c = (or_lt 16 c.args.a.bits c.args.b.bits c.args.a.ok c.args.b.ok, tt)
+pub invariant_of-result : goal.invariant_of-result
+invariant_of-result c = (or_lt 16 c.args.a.bits c.args.b.bits c.args.a.ok c.args.b.ok, tt)
 
 pub returns : goal.returns
 returns c = same_bits _ _ refl

@@ -12,18 +12,18 @@ pub returns-then-has-from : goal.returns-then-has-from
 returns-then-has-from c =
     let chart = decode c.args.chart.now.bytes.now in
     let i = c.loop-i.i in
-    let owner = c.from.ensures ∙ read_field (λ t. t.automaton) refl chart.transitions i c.automaton-of.ensures c.unwrap-or.ensures in
+    let owner = c.from.ensures ∙ read_field (λ t. t.automaton) refl chart.transitions i c.automaton_of.ensures c.unwrap_or.ensures in
     let known : (c.has.result && eqb c.from.result c.args.k) ≡ moves_it chart (marked c.args.fired.set) c.args.k i = λ j. c.has.ensures j && eqb (owner j) c.args.k in
-    let target = read_field (λ t. t.target) refl chart.transitions i c.target.ensures c.unwrap-or-then-has-from.ensures in
+    let target = read_field (λ t. t.target) refl chart.transitions i c.target.ensures c.unwrap_or-then-has-from.ensures in
     let lower : i < length chart.transitions = omega (arith, c.transitions-i-end.ensures) in
     c.became.ensures
-    ∙ moves_yes chart (marked c.args.fired.set) c.args.k c.args.held i c.loop-i.invariant c.unwrap-or-then-has-from.result lower (sym known ∙ c.if-has-from.true) target
+    ∙ moves_yes chart (marked c.args.fired.set) c.args.k c.args.held i c.loop-i.invariant c.unwrap_or-then-has-from.result lower (sym known ∙ c.if-has-from.true) target
 
 pub loop-i-preserved : goal.loop-i-preserved
 loop-i-preserved c =
     let chart = decode c.args.chart.now.bytes.now in
     let i = c.loop-i.i in
-    let owner = c.from.ensures ∙ read_field (λ t. t.automaton) refl chart.transitions i c.automaton-of.ensures c.unwrap-or.ensures in
+    let owner = c.from.ensures ∙ read_field (λ t. t.automaton) refl chart.transitions i c.automaton_of.ensures c.unwrap_or.ensures in
     let known : (c.has.result && eqb c.from.result c.args.k) ≡ moves_it chart (marked c.args.fired.set) c.args.k i = λ j. c.has.ensures j && eqb (owner j) c.args.k in
     let lower : i < length chart.transitions = omega (arith, c.transitions-i-end.ensures) in
     moves_no chart (marked c.args.fired.set) c.args.k c.args.held i c.loop-i.invariant lower (sym known ∙ c.if-has-from.false)

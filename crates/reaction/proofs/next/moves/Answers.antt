@@ -13,6 +13,6 @@ loop-k-preserved c =
     let f : ℕ → Outcome = λ j. moved (fired_by chart (marked c.args.fired.set) j) (get_or c.args.before.now.states j None) in
     let k = c.loop-k.k in
     let outcomes = c.loop-k.outcomes in (
-      length-set outcomes k c.move-of.result ∙ c.loop-k.invariant.0,
-      λ j l. ap (λ (o : Outcome). get_or (set outcomes k o) j gone) c.move-of.ensures ∙ fill_by_more f outcomes k gone (omega arith) c.loop-k.invariant.1 j l,
+      length-set outcomes k c.move_of.result ∙ c.loop-k.invariant.0,
+      λ j l. ap (λ (o : Outcome). get_or (set outcomes k o) j gone) c.move_of.ensures ∙ fill_by_more f outcomes k gone (omega arith) c.loop-k.invariant.1 j l,
     )

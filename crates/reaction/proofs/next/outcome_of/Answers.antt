@@ -12,7 +12,7 @@ returns-in-Some c =
     let all = (decode c.args.chart.now.bytes.now).automata in
     let here = nth_some all c.args.k no_automaton c.in-Some.automaton c.in-Some.ensures in
     c.under.ensures
-    ∙ ap (λ (o : Outcome). under c.in-Some.automaton.owner c.args.before.now c.args.itself o) c.start-of.ensures
+    ∙ ap (λ (o : Outcome). under c.in-Some.automaton.owner c.args.before.now c.args.itself o) c.start_of.ensures
     ∙ (λ i. under (here i).owner c.args.before.now c.args.itself (started (here i)))
 
 pub returns-in-None : goal.returns-in-None

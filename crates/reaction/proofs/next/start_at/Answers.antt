@@ -7,7 +7,7 @@ use Rattle.reaction.proofs.next.start_at.Goals as goal
 pub returns-in-Some : goal.returns-in-Some
 returns-in-Some c =
     let all = (decode c.args.chart.now.bytes.now).automata in
-    c.start-of.ensures ∙ ap started (nth_some all c.args.k no_automaton c.in-Some.automaton c.in-Some.ensures)
+    c.start_of.ensures ∙ ap started (nth_some all c.args.k no_automaton c.in-Some.automaton c.in-Some.ensures)
 
 pub returns-in-None : goal.returns-in-None
 returns-in-None c =

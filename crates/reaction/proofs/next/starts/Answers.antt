@@ -12,6 +12,6 @@ loop-k-preserved c =
     let f : ℕ → Outcome = λ j. started (automaton chart j) in
     let k = c.loop-k.k in
     let outcomes = c.loop-k.outcomes in (
-      length-set outcomes k c.start-at.result ∙ c.loop-k.invariant.0,
-      λ j l. ap (λ (o : Outcome). get_or (set outcomes k o) j gone) c.start-at.ensures ∙ fill_by_more f outcomes k gone (omega arith) c.loop-k.invariant.1 j l,
+      length-set outcomes k c.start_at.result ∙ c.loop-k.invariant.0,
+      λ j l. ap (λ (o : Outcome). get_or (set outcomes k o) j gone) c.start_at.ensures ∙ fill_by_more f outcomes k gone (omega arith) c.loop-k.invariant.1 j l,
     )

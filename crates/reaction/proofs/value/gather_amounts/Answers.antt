@@ -6,7 +6,7 @@ use Rattle.chart.proofs.Decoding.{read_field}
 use Rattle.reaction.specs.Value.{chosen}
 use Rattle.reaction.proofs.Chosen.{front_yes, front_no}
 use Rattle.reaction.proofs.value.gather_amounts.Goals as goal
-use Rattle.reaction.proofs.value.gather_amounts.Goals.{then-has-has-bit, else-has-has-bit}
+use Rattle.reaction.proofs.value.gather_amounts.Goals.{then-has-has_bit, else-has-has_bit}
 
 pub loop-k-preserved : goal.loop-k-preserved
 loop-k-preserved c =
@@ -15,17 +15,17 @@ loop-k-preserved c =
     let k = c.loop-k.k in
     let test : ℕ → Bool = λ j. bit (transition chart j).emitted c.args.s in
     let amount : ℕ → ℕ = λ j. (transition chart j).amount in
-    let emitted = c.has-bit.ensures ∙ ap (λ w. bit w c.args.s) (read_field (λ t. t.emitted) refl chart.transitions k c.emitted.ensures c.unwrap-or.ensures) in
-    let known : (c.has.result && c.has-bit.result) ≡ (fired k && test k) = λ i. c.has.ensures i && emitted i in
+    let emitted = c.has_bit.ensures ∙ ap (λ w. bit w c.args.s) (read_field (λ t. t.emitted) refl chart.transitions k c.emitted.ensures c.unwrap_or.ensures) in
+    let known : (c.has.result && c.has_bit.result) ≡ (fired k && test k) = λ i. c.has.ensures i && emitted i in
     let room : c.loop-k.n < length c.loop-k.amounts = omega arith in
-    elim c.if-has-has-bit.branch [
-      | then-has-has-bit w ↦
-          let here = read_field (λ t. t.amount) refl chart.transitions k w.amount.ensures w.unwrap-or-then-has-has-bit.ensures in (
-            (λ i. take (w.n-is i) (w.amounts-is i)) ∙ front_yes fired test k amount c.loop-k.amounts c.loop-k.n c.loop-k.invariant.0 _ (sym known ∙ w.if-has-has-bit.true) room here,
+    elim c.if-has-has_bit.branch [
+      | then-has-has_bit w ↦
+          let here = read_field (λ t. t.amount) refl chart.transitions k w.amount.ensures w.unwrap_or-then-has-has_bit.ensures in (
+            (λ i. take (w.n-is i) (w.amounts-is i)) ∙ front_yes fired test k amount c.loop-k.amounts c.loop-k.n c.loop-k.invariant.0 _ (sym known ∙ w.if-has-has_bit.true) room here,
             omega (arith, w.n-is),
           )
-      | else-has-has-bit w ↦ (
-        (λ i. take (w.n-is i) (w.amounts-is i)) ∙ front_no fired test k amount c.loop-k.amounts c.loop-k.n c.loop-k.invariant.0 (sym known ∙ w.if-has-has-bit.false),
+      | else-has-has_bit w ↦ (
+        (λ i. take (w.n-is i) (w.amounts-is i)) ∙ front_no fired test k amount c.loop-k.amounts c.loop-k.n c.loop-k.invariant.0 (sym known ∙ w.if-has-has_bit.false),
         omega (arith, w.n-is),
       )
     ]

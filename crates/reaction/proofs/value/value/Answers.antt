@@ -4,10 +4,10 @@ use Rattle.chart.proofs.Decoding.{few_transitions}
 use Rattle.reaction.proofs.Valued.{valued}
 use Rattle.reaction.proofs.value.value.Goals as goal
 
-pub gather-amounts-n-requires : goal.gather-amounts-n-requires
-gather-amounts-n-requires c = few_transitions c.args.chart.now.bytes.now c.args.chart.now.layout
+pub gather_amounts-n-requires : goal.gather_amounts-n-requires
+gather_amounts-n-requires c = few_transitions c.args.chart.now.bytes.now c.args.chart.now.layout
 
 pub returns : goal.returns
 returns c =
-    valued (decode c.args.chart.now.bytes.now) (marked c.args.fired.set) c.args.statuses.now c.args.s c.gather-amounts-n.result c.gather-amounts-n.new.amounts c.in-ok-signal.signal
-    c.if-not-is-present.ensures c.in-ok-signal.ensures c.gather-amounts-n.ensures.0 c.combine-by.ensures
+    valued (decode c.args.chart.now.bytes.now) (marked c.args.fired.set) c.args.statuses.now c.args.s c.gather_amounts-n.result c.gather_amounts-n.new.amounts c.in_ok-signal.signal
+    c.if-not-is_present.ensures c.in_ok-signal.ensures c.gather_amounts-n.ensures.0 c.combine_by.ensures

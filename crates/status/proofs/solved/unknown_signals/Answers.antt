@@ -17,6 +17,6 @@ loop-s-preserved c k =
     let s = c.loop-s.s in
     elim c.if-not-area-s.branch [
       | then-not-area-s w ↦ ap (λ m. bit m k) w.mask-is
-          ∙ unknown_yes u (bit c.loop-s.mask k) (bit w.with-bit-mask.result k) s k (omega arith) w.if-not-area-s.true (c.loop-s.invariant k) (w.with-bit-mask.ensures k)
+          ∙ unknown_yes u (bit c.loop-s.mask k) (bit w.with_bit-mask.result k) s k (omega arith) w.if-not-area-s.true (c.loop-s.invariant k) (w.with_bit-mask.ensures k)
       | else-not-area-s w ↦ ap (λ m. bit m k) w.mask-is ∙ unknown_no u (bit c.loop-s.mask k) s k w.if-not-area-s.false (c.loop-s.invariant k)
     ]

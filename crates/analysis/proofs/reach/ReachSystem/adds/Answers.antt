@@ -10,7 +10,7 @@ returns-then-i-first c =
     let chart = decode c.args.self.now.chart.bytes.now in
     let m = length chart.automata in
     let i = c.args.i in
-    let automaton = c.from.ensures ∙ read_field (λ t. t.automaton) refl chart.transitions c.args.t c.automaton-of.ensures c.unwrap-or.ensures in
+    let automaton = c.from.ensures ∙ read_field (λ t. t.automaton) refl chart.transitions c.args.t c.automaton_of.ensures c.unwrap_or.ensures in
     ap (λ a. eqb a i) automaton ∙ sym (cond-true (ltb i m) _ _ (lt-ltb i m (omega arith)))
 
 pub returns : goal.returns
@@ -18,5 +18,5 @@ returns c =
     let chart = decode c.args.self.now.chart.bytes.now in
     let m = length chart.automata in
     let i = c.args.i in
-    let emitted = read_field (λ t. t.emitted) refl chart.transitions c.args.t c.emitted.ensures c.unwrap-or-2.ensures in
-    c.has-bit.ensures ∙ (λ k. bit (emitted k) (i - c.automata-first.ensures k)) ∙ sym (cond-false (ltb i m) _ _ (le-ltb i m (omega arith)))
+    let emitted = read_field (λ t. t.emitted) refl chart.transitions c.args.t c.emitted.ensures c.unwrap_or-2.ensures in
+    c.has_bit.ensures ∙ (λ k. bit (emitted k) (i - c.automata-first.ensures k)) ∙ sym (cond-false (ltb i m) _ _ (le-ltb i m (omega arith)))

@@ -12,7 +12,7 @@ returns-then-j-first c =
     let m = length chart.automata in
     let t = transition chart c.args.t in
     let j = c.args.j in
-    let automaton = c.from.ensures ∙ read_field (λ t. t.automaton) refl chart.transitions c.args.t c.automaton-of.ensures c.unwrap-or.ensures in
+    let automaton = c.from.ensures ∙ read_field (λ t. t.automaton) refl chart.transitions c.args.t c.automaton_of.ensures c.unwrap_or.ensures in
     ap (λ a. eqb a j) automaton ∙ sym (ap (λ b. eqb t.automaton j || (b && bit t.needed (j - m))) (lt-leb m j (omega arith)) ∙ or-false (eqb t.automaton j))
 
 pub returns : goal.returns
@@ -21,7 +21,7 @@ returns c =
     let m = length chart.automata in
     let t = transition chart c.args.t in
     let j = c.args.j in
-    let automaton = c.from.ensures ∙ read_field (λ t. t.automaton) refl chart.transitions c.args.t c.automaton-of.ensures c.unwrap-or.ensures in
-    let needed = read_field (λ t. t.needed) refl chart.transitions c.args.t c.needed.ensures c.unwrap-or-2.ensures in
-    let one = c.has-bit.ensures ∙ (λ k. bit (needed k) (j - c.automata-first.ensures k)) in
+    let automaton = c.from.ensures ∙ read_field (λ t. t.automaton) refl chart.transitions c.args.t c.automaton_of.ensures c.unwrap_or.ensures in
+    let needed = read_field (λ t. t.needed) refl chart.transitions c.args.t c.needed.ensures c.unwrap_or-2.ensures in
+    let one = c.has_bit.ensures ∙ (λ k. bit (needed k) (j - c.automata-first.ensures k)) in
     (λ k. eqb (automaton k) j || one k) ∙ sym (ap (λ b. eqb t.automaton j || (b && bit t.needed (j - m))) (le-leb m j (omega arith)))

@@ -7,6 +7,6 @@ use Rattle.analysis.proofs.reach.ReachSystem.emits.Goals as goal
 pub returns : goal.returns
 returns c =
     let ts = (decode c.args.self.now.chart.bytes.now).transitions in
-    let emitted = read_field (λ t. t.emitted) refl ts c.args.t c.emitted.ensures c.unwrap-or.ensures in
-    let here = c.has-bit.ensures ∙ ap (λ w. bit w c.args.s) emitted in
+    let emitted = read_field (λ t. t.emitted) refl ts c.args.t c.emitted.ensures c.unwrap_or.ensures in
+    let here = c.has_bit.ensures ∙ ap (λ w. bit w c.args.s) emitted in
     λ i. here i && c.possible.ensures i

@@ -22,6 +22,6 @@ loop-s-preserved c j =
     let small : s < 64 = omega arith in
     let is : set ≡ get_or area (m + s) set = c.index-area-first.is ∙ ap (λ n. get_or area (n + s) set) c.automata-first.ensures in
     elim c.if-holds.branch [
-      | then-holds w ↦ ap (λ n. bit n j) w.signals-is ∙ seen_yes m s area j set inside small is c.holds.ensures w.if-holds.true (c.loop-s.invariant j) (w.with-bit-signals.ensures j)
+      | then-holds w ↦ ap (λ n. bit n j) w.signals-is ∙ seen_yes m s area j set inside small is c.holds.ensures w.if-holds.true (c.loop-s.invariant j) (w.with_bit-signals.ensures j)
       | else-holds w ↦ ap (λ n. bit n j) w.signals-is ∙ seen_no m s area j set inside is c.holds.ensures w.if-holds.false (c.loop-s.invariant j)
     ]

@@ -27,4 +27,4 @@ returns c =
     let chart = decode c.args.self.now.chart.bytes.now in
     let p : Transition → Bool = λ t. adds chart c.args.i t && bears chart c.args.j t in
     let owned = owned_by c.args.j (slice_get chart.automata c.args.i) in
-    c.owned-by.ensures ∙ sym (ap (λ b. owned || b) (some_none p chart.transitions c.loop-t.t (omega arith) c.loop-t.invariant) ∙ or-false owned)
+    c.owned_by.ensures ∙ sym (ap (λ b. owned || b) (some_none p chart.transitions c.loop-t.t (omega arith) c.loop-t.invariant) ∙ or-false owned)

@@ -6,5 +6,5 @@ use Rattle.analysis.proofs.reach.ReachSystem.moves.Goals as goal
 pub returns : goal.returns
 returns c =
     let ts = (decode c.args.self.now.chart.bytes.now).transitions in
-    let automaton = c.from.ensures ∙ read_field (λ t. t.automaton) refl ts c.args.t c.automaton-of.ensures c.unwrap-or.ensures in
+    let automaton = c.from.ensures ∙ read_field (λ t. t.automaton) refl ts c.args.t c.automaton_of.ensures c.unwrap_or.ensures in
     λ i. eqb (automaton i) c.args.k && c.possible.ensures i

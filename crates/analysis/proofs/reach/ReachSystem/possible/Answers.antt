@@ -11,9 +11,9 @@ returns c =
     let chart = decode c.args.self.now.chart.bytes.now in
     let ts = chart.transitions in
     let signals = c.args.signals in
-    let automaton = read_field (λ t. t.automaton) refl ts c.args.k c.automaton-of.ensures c.unwrap-or-automaton.ensures in
-    let source = read_field (λ t. t.source) refl ts c.args.k c.source.ensures c.unwrap-or-source.ensures in
-    let needed = read_field (λ t. t.needed) refl ts c.args.k c.needed.ensures c.unwrap-or-needed.ensures in
+    let automaton = read_field (λ t. t.automaton) refl ts c.args.k c.automaton_of.ensures c.unwrap_or-automaton.ensures in
+    let source = read_field (λ t. t.source) refl ts c.args.k c.source.ensures c.unwrap_or-source.ensures in
+    let needed = read_field (λ t. t.needed) refl ts c.args.k c.needed.ensures c.unwrap_or-needed.ensures in
     let held = c.reached.ensures ∙ (λ i. reached_in chart c.args.area.now (automaton i) (source i)) in
     let wanted = ap (λ w. eqb (bit_and w (2 ^ 64 - 1 - signals)) 0) needed ∙ every_set (transition chart c.args.k).needed signals (omega arith) in
     λ i. held i && wanted i

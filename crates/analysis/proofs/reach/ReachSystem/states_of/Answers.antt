@@ -12,8 +12,8 @@ loop-t-preserved c =
     let chart = decode c.args.self.now.chart.bytes.now in
     let p = moves (reached_in chart c.args.area.now) (bit c.args.signals) c.args.k in
     let set = c.loop-t.set in
-    let target = read_field (λ t. t.target) refl chart.transitions c.loop-t.t c.target.ensures c.unwrap-or-target.ensures in
-    let one = c.only-if.ensures ∙ (λ i. only_if (c.moves.ensures i) (target i)) in
+    let target = read_field (λ t. t.target) refl chart.transitions c.loop-t.t c.target.ensures c.unwrap_or-target.ensures in
+    let one = c.only_if.ensures ∙ (λ i. only_if (c.moves.ensures i) (target i)) in
     targets_more p chart.transitions c.loop-t.t set c.union-set.result (omega arith)
     (c.union-set.ensures ∙ ap (union set) one) c.loop-t.invariant
 

@@ -6,8 +6,8 @@ use Rattle.engine.specs.Story.{Behind, was_reset}
 use Rattle.engine.proofs.Stories.{behind_reset}
 use Rattle.engine.proofs.runner.Runner.reset.Goals as goal
 
-pub invariant-of-self : goal.invariant-of-self
-invariant-of-self c = (∣ ([], λ i. record { count = 0; states = sym c.start-self.ensures i }) ∣₁, tt)
+pub invariant_of-self : goal.invariant_of-self
+invariant_of-self c = (∣ ([], λ i. record { count = 0; states = sym c.start-self.ensures i }) ∣₁, tt)
 
 pub returns : goal.returns
 returns c =

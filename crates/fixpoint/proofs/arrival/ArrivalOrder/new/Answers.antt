@@ -6,9 +6,9 @@ use Rattle.fixpoint.proofs.Marking.{marked_none}
 use Rattle.fixpoint.proofs.Tally.{tally_none}
 use Rattle.fixpoint.proofs.arrival.ArrivalOrder.new.Goals as goal
 
-pub invariant-of-result : goal.invariant-of-result
+pub invariant_of-result : goal.invariant_of-result
 unfolding queue
-invariant-of-result c =
+invariant_of-result c =
     let none = marked_none (record { low = 0; high = 0 }) refl refl in
     (omega arith, (none, (refl, (sym (tally_none (marked (record { low = 0; high = 0 })) 128 none), tt))))
 

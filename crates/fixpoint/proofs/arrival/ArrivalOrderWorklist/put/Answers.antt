@@ -38,14 +38,14 @@ module _ (w : ArrivalOrder) (i : ℕ) (small : i < 128) (free : false ≡ marked
     agree_too : (j : ℕ) → q j ≡ has j (waiting w ++ (i ∷ []))
     agree_too j = marked_too j ∙ ap (λ b. b || eqb j i) (w.agree j) ∙ sym (has_push (waiting w) i j)
 
-pub overflow-add-self : goal.overflow-add-self
-overflow-add-self c = omega (arith, c.args.self.now.counted, tally_le (marked c.args.self.now.marks) 128, c.args.self.now.inside)
+pub overflow_add-self : goal.overflow_add-self
+overflow_add-self c = omega (arith, c.args.self.now.counted, tally_le (marked c.args.self.now.marks) 128, c.args.self.now.inside)
 
-pub overflow-add-self-then-not-has : goal.overflow-add-self-then-not-has
-overflow-add-self-then-not-has c = omega (arith, c.args.self.now.counted, tally_le (marked c.args.self.now.marks) 128)
+pub overflow_add-self-then-not-has : goal.overflow_add-self-then-not-has
+overflow_add-self-then-not-has c = omega (arith, c.args.self.now.counted, tally_le (marked c.args.self.now.marks) 128)
 
-pub invariant-of-self : goal.invariant-of-self
-invariant-of-self c =
+pub invariant_of-self : goal.invariant_of-self
+invariant_of-self c =
     let w = c.args.self.now in
     let i = c.args.i in
     let small : i < 128 = omega arith in

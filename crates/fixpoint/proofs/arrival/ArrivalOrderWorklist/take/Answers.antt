@@ -48,8 +48,8 @@ returns-then-self-eq0 c =
       queued = none ∙ sym (ap (drop 1) none);
     }
 
-pub invariant-of-self : goal.invariant-of-self
-invariant-of-self c =
+pub invariant_of-self : goal.invariant_of-self
+invariant_of-self c =
     let w = c.args.self.now in
     let some = c.if-self-eq0.false in
     let p = marked w.marks in

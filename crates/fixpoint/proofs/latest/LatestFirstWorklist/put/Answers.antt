@@ -6,11 +6,11 @@ use Rattle.fixpoint.proofs.Layers.{held, put_room, put_full}
 use Rattle.fixpoint.proofs.Waiting.{put_accepted}
 use Rattle.fixpoint.proofs.latest.LatestFirstWorklist.put.Goals as goal
 
-pub invariant-of-self : goal.invariant-of-self
-invariant-of-self g c = (pushed_small _ _ c.args.i c.push.result c.push.ensures c.args.self.now.fits (omega arith), tt)
+pub invariant_of-self : goal.invariant_of-self
+invariant_of-self g c = (pushed_small _ _ c.args.i c.push.result c.push.ensures c.args.self.now.fits (omega arith), tt)
 
-pub invariant-of-self-in-default : goal.invariant-of-self-in-default
-invariant-of-self-in-default g c = (pushed_small _ _ c.args.i c.push.result c.push.ensures c.args.self.now.fits (omega arith), tt)
+pub invariant_of-self-in_default : goal.invariant_of-self-in_default
+invariant_of-self-in_default g c = (pushed_small _ _ c.args.i c.push.result c.push.ensures c.args.self.now.fits (omega arith), tt)
 
 pub returns-in-Some : goal.returns-in-Some
 returns-in-Some g c =
@@ -24,12 +24,12 @@ returns-in-Some g c =
       layered = λ _ _. after.1;
     }
 
-pub returns-in-default : goal.returns-in-default
-returns-in-default g c =
+pub returns-in_default : goal.returns-in_default
+returns-in_default g c =
     let eight = held c.args.self.now.eight in
     let below = c.args.self.now.below in
     let out : union eight (g.W.Worklist.waiting below) c.args.i ≡ false = cc in
-    let after = put_room g.W.Worklist.waiting eight (held c.push.new.self) c.args.i below c.in-default.ensures in
+    let after = put_room g.W.Worklist.waiting eight (held c.push.new.self) c.args.i below c.in_default.ensures in
     record {
       put = put_accepted (omega arith) after.0;
       kept = λ h. elim (both_ways (union eight (g.W.Worklist.waiting below) c.args.i) out h) [ ];

@@ -4,11 +4,11 @@ use Rattle.fixpoint.specs.Held.{small_without}
 use Rattle.fixpoint.proofs.Layers.{held, latest_same, take_newest, take_below, take_none}
 use Rattle.fixpoint.proofs.latest.LatestFirstWorklist.take.Goals as goal
 
-pub invariant-of-self : goal.invariant-of-self
-invariant-of-self g c = (ap small c.leave.ensures ∙ small_without c.from.result (held c.args.self.now.eight) c.args.self.now.fits, tt)
+pub invariant_of-self : goal.invariant_of-self
+invariant_of-self g c = (ap small c.leave.ensures ∙ small_without c.from.result (held c.args.self.now.eight) c.args.self.now.fits, tt)
 
-pub invariant-of-self-in-Some-taken : goal.invariant-of-self-in-Some-taken
-invariant-of-self-in-Some-taken g c = (ap small c.leave-in-Some-taken.ensures ∙ small_without _ (held c.args.self.now.eight) c.args.self.now.fits, tt)
+pub invariant_of-self-in-Some-taken : goal.invariant_of-self-in-Some-taken
+invariant_of-self-in-Some-taken g c = (ap small c.leave-in-Some-taken.ensures ∙ small_without _ (held c.args.self.now.eight) c.args.self.now.fits, tt)
 
 pub returns-in-Some : goal.returns-in-Some
 returns-in-Some g c =
@@ -20,10 +20,10 @@ returns-in-Some-taken g c =
     let after = take_below g.W.Worklist.waiting (held c.args.self.now.eight) (held c.leave-in-Some-taken.new.self) c.in-Some-taken.i c.args.self.now.below c.take-taken.new.self c.in_default.ensures c.in-Some-taken.ensures c.leave-in-Some-taken.ensures in
     record { taken = after.0; layered = after.1 }
 
-pub returns-in-default-taken : goal.returns-in-default-taken
-returns-in-default-taken g c =
-    let after = take_none g.W.Worklist.waiting (held c.args.self.now.eight) c.args.self.now.below c.take-taken.new.self c.in-default.ensures c.in-default-taken.ensures in
+pub returns-in_default-taken : goal.returns-in_default-taken
+returns-in_default-taken g c =
+    let after = take_none g.W.Worklist.waiting (held c.args.self.now.eight) c.args.self.now.below c.take-taken.new.self c.in_default.ensures c.in_default-taken.ensures in
     record {
-      taken = rw c.in-default-taken.is (after.0, let same = c.in-default-taken.ensures.1 in search latest_same);
-      layered = rw c.in-default-taken.is after.1;
+      taken = rw c.in_default-taken.is (after.0, let same = c.in_default-taken.ensures.1 in search latest_same);
+      layered = rw c.in_default-taken.is after.1;
     }

@@ -7,6 +7,6 @@ use Rattle.status.proofs.equations.StatusSystem.live.Goals as goal
 pub returns : goal.returns
 returns c =
     let ts = (decode c.args.self.now.chart.bytes.now).transitions in
-    let automaton = c.from-automaton.ensures ∙ read_field (λ t. t.automaton) refl ts c.args.k c.automaton-of.ensures c.unwrap-or.ensures in
-    let source = read_field (λ t. t.source) refl ts c.args.k c.source.ensures c.unwrap-or-source.ensures in
+    let automaton = c.from-automaton.ensures ∙ read_field (λ t. t.automaton) refl ts c.args.k c.automaton_of.ensures c.unwrap_or.ensures in
+    let source = read_field (λ t. t.source) refl ts c.args.k c.source.ensures c.unwrap_or-source.ensures in
     c.holds.ensures ∙ (λ i. holds c.args.self.now.configuration.now.states (automaton i) (source i))

@@ -22,6 +22,6 @@ loop-k-preserved c =
 pub returns : goal.returns
 returns c =
     let chart = decode c.args.self.now.chart.bytes.now in
-    let no : input chart c.args.s ≡ false = sym c.is_input.ensures ∙ c.if-is-input.false in
+    let no : input chart c.args.s ≡ false = sym c.is_input.ensures ∙ c.if-is_input.false in
     firings_none c.args.self.now.configuration.now.states chart.transitions c.args.s c.loop-k.k (told c.args.words) c.loop-k.emitted (omega arith) c.loop-k.invariant
     ∙ sym (cond-false (input chart c.args.s) _ _ no)

@@ -7,9 +7,9 @@ pub returns : goal.returns
 returns c =
     let line = c.args.self.now in
     record {
-      exact = omega (arith, c.put-line.ensures.laid.place);
+      exact = omega (arith, c.put_line.ensures.laid.place);
       longest = λ few held.
           let count = length-decimal-le 7 line.count (omega arith) (omega arith) (omega arith) in
           let states = states_short line.chart.bytes.now line.chart.layout line.after.now.states held in
-          omega (arith, c.put-line.ensures.short);
+          omega (arith, c.put_line.ensures.short);
     }

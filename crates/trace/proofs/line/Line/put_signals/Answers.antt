@@ -11,8 +11,8 @@ use Rattle.trace.proofs.line.Line.put_signals.Goals as goal
 pub loop-s-init : goal.loop-s-init
 loop-s-init c = (nothing_laid, omega arith)
 
-pub put-signal-next-requires : goal.put-signal-next-requires
-put-signal-next-requires c =
+pub put_signal-next-requires : goal.put_signal-next-requires
+put_signal-next-requires c =
     let chart = c.args.self.now.chart in
     (omega (arith, few_signals chart.bytes.now chart.layout), omega (arith, c.signals-s-end.ensures))
 
@@ -21,7 +21,7 @@ loop-s-preserved c =
     let line = c.args.self.now in
     let chart = decode line.chart.bytes.now in
     let texts = signal_text chart line.statuses.now (values chart (marked line.fired.set) line.statuses.now) in
-    (number_laid texts c.loop-s.s c.loop-s.invariant.0 c.put-signal-next.ensures.0, omega arith)
+    (number_laid texts c.loop-s.s c.loop-s.invariant.0 c.put_signal-next.ensures.0, omega arith)
 
 pub returns : goal.returns
 returns c =

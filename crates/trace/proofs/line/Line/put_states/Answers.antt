@@ -9,12 +9,12 @@ use Rattle.trace.proofs.line.Line.put_states.Goals as goal
 pub loop-k-init : goal.loop-k-init
 loop-k-init c = (nothing_laid, omega arith)
 
-pub put-state-next-requires : goal.put-state-next-requires
-put-state-next-requires c = omega (arith, few_automata c.args.self.now.chart.bytes.now c.args.self.now.chart.layout)
+pub put_state-next-requires : goal.put_state-next-requires
+put_state-next-requires c = omega (arith, few_automata c.args.self.now.chart.bytes.now c.args.self.now.chart.layout)
 
 pub loop-k-preserved : goal.loop-k-preserved
 loop-k-preserved c = (
-  number_laid (state_text c.args.self.now.after.now.states) c.loop-k.k c.loop-k.invariant.0 (laid_as (ap space_held c.held.ensures) c.put-state-next.ensures.0),
+  number_laid (state_text c.args.self.now.after.now.states) c.loop-k.k c.loop-k.invariant.0 (laid_as (ap space_held c.held.ensures) c.put_state-next.ensures.0),
   omega arith,
 )
 

@@ -7,4 +7,4 @@ pub returns : goal.returns
 returns c =
     let line = told_line c.args.self.now in
     let fits : length line ≤ length c.args.buffer.now = omega (arith, c.length-length.ensures.exact) in
-    record { answer = fitting_answer line fits c.put-line.ensures.laid; after = fitting_buffer line fits c.put-line.ensures.laid }
+    record { answer = fitting_answer line fits c.put_line.ensures.laid; after = fitting_buffer line fits c.put_line.ensures.laid }
