@@ -1,5 +1,5 @@
 -- Sets of numbers as the bits of a word: the union is associative, and a union that adds something has more bits set. Assumes nothing.
-use Rattle.std.proofs.Common.{◌≡◌, ℕ, zero, suc, ◌+◌, ◌*◌, ◌/◌, ◌%◌, ◌<◌, ◌≤◌, max, ◌⊎◌, sym, refl, ap, ◌∙◌, inl, inr, ⊎_elim, arith, lit<}
+use Rattle.std.proofs.Common.{◌≡◌, ℕ, ◌+◌, ◌/◌, ◌%◌, ◌<◌, max, ◌⊎◌, sym, refl, ap, ◌∙◌, inl, inr, ⊎_elim, arith, lit<}
 use lib.Arith.{bin_ind}
 use lib.Bits.{bit_or, or_step}
 use lib.Count.{ones, ones-le, ones_step}

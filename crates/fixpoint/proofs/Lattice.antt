@@ -1,5 +1,5 @@
 -- What the laws of the join give of the order, and of the rank. Assumes nothing.
-use Rattle.std.proofs.Common.{◌≡◌, ℕ, zero, suc, ◌<◌, ◌≤◌, ◌⊎◌, List, sym, refl, ap, ◌∙◌, subst, inl, inr, ⊎_elim, le_trans, le_of_eq, lt_of_lt_of_le, arith}
+use Rattle.std.proofs.Common.{◌≡◌, ℕ, ◌<◌, ◌⊎◌, sym, refl, ap, ◌∙◌, subst, inl, inr, ⊎_elim, arith}
 use base.Stored.{Gv, gnil, gnum, gcons, num, Coded}
 use Rattle.std.proofs.lemmas.Bool.{cases_eq}
 use Rattle.fixpoint.specs.System.{Equations, Laws, Below}

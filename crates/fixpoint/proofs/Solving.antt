@@ -1,14 +1,14 @@
 -- What the solver keeps true from turn to turn, and why it ends. Assumes nothing.
-use Rattle.std.proofs.Common.{◌≡◌, ℕ, suc, ◌+◌, ◌-◌, ◌*◌, ◌<◌, ◌≤◌, Bool, true, false, not, ◌&&◌, ◌||◌, eqb, ltb, ◌⊎◌, List, length, get_or, take, drop, set, sum_by, sym, refl, ap, ◌∙◌, subst, inl, inr, ⊎_elim, arith}
+use Rattle.std.proofs.Common.{◌≡◌, ℕ, ◌+◌, ◌-◌, ◌*◌, ◌<◌, ◌≤◌, Bool, true, false, ◌&&◌, ◌||◌, ltb, List, length, take, drop, set, sum_by, sym, ap, ◌∙◌, subst, ⊎_elim, arith}
 use base.Stored.{Coded}
-use Rattle.std.proofs.lemmas.List.{length-set, length-take-le, get_or-set_same, get_or-set_other, get_or-take, drop-set-lt}
+use Rattle.std.proofs.lemmas.List.{length-set, length-take-le, get_or-set_same, get_or-set_other, drop-set-lt}
 use Rattle.std.proofs.lemmas.List.Sums.{sum_by-set, sum_by-take-drop}
-use Rattle.std.proofs.lemmas.Bool.{both_ways, cases_eq, cases_Bool, eq-eqb, ne_eqb, lt-ltb, or_parts}
+use Rattle.std.proofs.lemmas.Bool.{both_ways, cases_eq, ne_eqb, lt-ltb, or_parts}
 use Rattle.std.proofs.lemmas.Bool.Decides.{nat_tests}
 use Rattle.fixpoint.specs.Solver.{Raised, Solved, raised, readers}
-use Rattle.fixpoint.specs.System.{Equations, Laws, Below, BelowAll, Assignment, Closed, Solution, place}
+use Rattle.fixpoint.specs.System.{Equations, Laws, Below, BelowAll, Assignment, Closed, place}
 use Rattle.fixpoint.specs.Worklist.{tally, without_number}
-use Rattle.fixpoint.proofs.Lattice.{below_trans, below_join_left, below_join_right, join_below}
+use Rattle.fixpoint.proofs.Lattice.{below_trans, below_join_right, join_below}
 use Rattle.fixpoint.proofs.Leastness.{least_first, least_solved, ranks_bounded}
 use Rattle.fixpoint.proofs.Tally.{tally_le, tally_same, tally_without}
 

@@ -1,5 +1,5 @@
 -- Lists of numbers, as worklists hold them. Assumes nothing.
-use Rattle.std.specs.Prelude.{◌≡◌, ℕ, Bool, true, false, not, ◌&&◌, ◌||◌, List, [], ◌∷◌, filter, ◌==◌, nat_lt}
+use Rattle.std.specs.Prelude.{ℕ, Bool, true, false, not, ◌&&◌, ◌||◌, List, [], ◌∷◌, filter, ◌==◌, nat_lt}
 
 -- whether i is in the list
 abbrev pub has : ℕ → List ℕ → Bool

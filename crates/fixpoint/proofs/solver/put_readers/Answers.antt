@@ -1,4 +1,4 @@
-use Rattle.std.proofs.Common.{◌≡◌, ◌<◌, sym, ap, ◌∙◌, arith}
+use Rattle.std.proofs.Common.{◌<◌, sym, ap, ◌∙◌, arith}
 use Rattle.fixpoint.proofs.Waiting.{put_small, waits_more, waits_less}
 use Rattle.fixpoint.proofs.solver.put_readers.Goals as goal
 use Rattle.fixpoint.proofs.solver.put_readers.Goals.{then-reads, else-reads}

@@ -1,4 +1,4 @@
-use Rattle.std.proofs.Common.{◌≡◌, ◌<◌, drop, sym, refl, subst, arith}
+use Rattle.std.proofs.Common.{◌≡◌, drop, sym, refl, subst, arith}
 use Rattle.fixpoint.specs.Solver.{Solved}
 use Rattle.fixpoint.proofs.Solving.{working_raised, working_end, left_dropped, left_raised}
 use Rattle.fixpoint.proofs.solver.solve.Goals as goal

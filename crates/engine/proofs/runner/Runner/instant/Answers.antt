@@ -32,7 +32,7 @@ pub invariant_of-self-2 : goal.invariant_of-self-2
 invariant_of-self-2 g c =
     let bytes = c.args.self.now.chart.bytes.now in
     let h = held c.args.self.now.count c.args.self.now.configuration.states in
-    (subst (Past bytes) (sym c.in_ok-accepted.ensures.holds) (past_instant bytes h c.args.mask (length c.args.area.now) (length c.args.line.now) c.args.self.now.past), tt)
+    record { past = subst (Past bytes) (sym c.in_ok-accepted.ensures.holds) (past_instant bytes h c.args.mask (length c.args.area.now) (length c.args.line.now) c.args.self.now.past) }
 
 pub returns : goal.returns
 returns g c =

@@ -7,7 +7,7 @@ use Rattle.engine.proofs.Stories.{behind_reset}
 use Rattle.engine.proofs.runner.Runner.reset.Goals as goal
 
 pub invariant_of-self : goal.invariant_of-self
-invariant_of-self c = (∣ ([], λ i. record { count = 0; states = sym c.start-self.ensures i }) ∣₁, tt)
+invariant_of-self c = record { past = ∣ ([], λ i. record { count = 0; states = sym c.start-self.ensures i }) ∣₁ }
 
 pub returns : goal.returns
 returns c =

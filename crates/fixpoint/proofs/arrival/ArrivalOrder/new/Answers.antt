@@ -10,7 +10,7 @@ pub invariant_of-result : goal.invariant_of-result
 unfolding queue
 invariant_of-result c =
     let none = marked_none (record { low = 0; high = 0 }) refl refl in
-    (omega arith, (none, (refl, (sym (tally_none (marked (record { low = 0; high = 0 })) 128 none), tt))))
+    record { inside = omega arith; agree = none; once = refl; counted = sym (tally_none (marked (record { low = 0; high = 0 })) 128 none) }
 
 pub returns : goal.returns
 unfolding queue

@@ -51,16 +51,13 @@ invariant_of-self c =
     let small : i < 128 = omega arith in
     let free = c.if-not-has.ensures in
     let q = marked c.with-self.result in
-    let e = pushed w i small free (omega arith) in (
-      w.inside,
-      (
-        (λ j. agree_too w i small free q c.with-self.ensures j ∙ ap (has j) (sym e)),
-        (
-          ap distinct e ∙ distinct_push (waiting w) i w.once (outside w i small free),
-          (omega (arith, w.counted, tally_with (marked w.marks) q i 128 small (sym free) (marked_too w i small free q c.with-self.ensures)), tt),
-        ),
-      ),
-    )
+    let e = pushed w i small free (omega arith) in
+    record {
+      inside = w.inside;
+      agree = λ j. agree_too w i small free q c.with-self.ensures j ∙ ap (has j) (sym e);
+      once = ap distinct e ∙ distinct_push (waiting w) i w.once (outside w i small free);
+      counted = omega (arith, w.counted, tally_with (marked w.marks) q i 128 small (sym free) (marked_too w i small free q c.with-self.ensures));
+    }
 
 pub returns-then-not-has : goal.returns-then-not-has
 returns-then-not-has c =

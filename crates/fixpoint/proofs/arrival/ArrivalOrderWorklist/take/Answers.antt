@@ -55,16 +55,13 @@ invariant_of-self c =
     let p = marked w.marks in
     let q = marked c.without-self.result in
     let mark : p (first w) ≡ true = w.agree (first w) ∙ waits w some in
-    let less = c.without-self.ensures in (
-      omega arith,
-      (
-        (λ j. less j ∙ ap (λ b. b && not (eqb j (first w))) (w.agree j) ∙ sym (no_more w some j)),
-        (
-          (and_parts (not (has (first w) (others w))) (distinct (others w)) (once_all w some)).1,
-          (omega (arith, w.counted, tally_without p q (first w) 128 (marked_few w.marks (first w) mark) mark less), tt),
-        ),
-      ),
-    )
+    let less = c.without-self.ensures in
+    record {
+      inside = omega arith;
+      agree = λ j. less j ∙ ap (λ b. b && not (eqb j (first w))) (w.agree j) ∙ sym (no_more w some j);
+      once = (and_parts (not (has (first w) (others w))) (distinct (others w)) (once_all w some)).1;
+      counted = omega (arith, w.counted, tally_without p q (first w) 128 (marked_few w.marks (first w) mark) mark less);
+    }
 
 pub returns : goal.returns
 returns c =

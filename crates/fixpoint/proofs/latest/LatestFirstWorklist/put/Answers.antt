@@ -7,10 +7,10 @@ use Rattle.fixpoint.proofs.Waiting.{put_accepted}
 use Rattle.fixpoint.proofs.latest.LatestFirstWorklist.put.Goals as goal
 
 pub invariant_of-self : goal.invariant_of-self
-invariant_of-self g c = (pushed_small _ _ c.args.i c.push.result c.push.ensures c.args.self.now.fits (omega arith), tt)
+invariant_of-self g c = record { fits = pushed_small _ _ c.args.i c.push.result c.push.ensures c.args.self.now.fits (omega arith) }
 
 pub invariant_of-self-in_default : goal.invariant_of-self-in_default
-invariant_of-self-in_default g c = (pushed_small _ _ c.args.i c.push.result c.push.ensures c.args.self.now.fits (omega arith), tt)
+invariant_of-self-in_default g c = record { fits = pushed_small _ _ c.args.i c.push.result c.push.ensures c.args.self.now.fits (omega arith) }
 
 pub returns-in-Some : goal.returns-in-Some
 returns-in-Some g c =

@@ -1,14 +1,14 @@
-use Rattle.std.proofs.Common.{refl, ap, ◌∙◌}
+use Rattle.std.proofs.Common.{ap, ◌∙◌}
 use Rattle.fixpoint.specs.Numbers.{small}
 use Rattle.fixpoint.specs.Held.{small_without}
 use Rattle.fixpoint.proofs.Layers.{held, latest_same, take_newest, take_below, take_none}
 use Rattle.fixpoint.proofs.latest.LatestFirstWorklist.take.Goals as goal
 
 pub invariant_of-self : goal.invariant_of-self
-invariant_of-self g c = (ap small c.leave.ensures ∙ small_without c.from.result (held c.args.self.now.eight) c.args.self.now.fits, tt)
+invariant_of-self g c = record { fits = ap small c.leave.ensures ∙ small_without c.from.result (held c.args.self.now.eight) c.args.self.now.fits }
 
 pub invariant_of-self-in-Some-taken : goal.invariant_of-self-in-Some-taken
-invariant_of-self-in-Some-taken g c = (ap small c.leave-in-Some-taken.ensures ∙ small_without _ (held c.args.self.now.eight) c.args.self.now.fits, tt)
+invariant_of-self-in-Some-taken g c = record { fits = ap small c.leave-in-Some-taken.ensures ∙ small_without _ (held c.args.self.now.eight) c.args.self.now.fits }
 
 pub returns-in-Some : goal.returns-in-Some
 returns-in-Some g c =

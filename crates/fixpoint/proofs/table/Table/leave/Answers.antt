@@ -1,4 +1,4 @@
-use Rattle.std.proofs.Common.{get_or, take, sym, ap, ◌∙◌, arith}
+use Rattle.std.proofs.Common.{get_or, take, ap, ◌∙◌, arith}
 use Rattle.std.proofs.lemmas.List.Filters.{FiltersInPlace-more_set, FiltersInPlace-more_no}
 use Rattle.std.proofs.lemmas.List.{get_or_default}
 use Rattle.std.proofs.lemmas.Bool.Decides.{nat_tests}
