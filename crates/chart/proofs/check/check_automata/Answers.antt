@@ -15,13 +15,13 @@ returns-then-bytes-place c =
     let i = c.loop-k.k in
     sym (c.loop-k.invariant.0 ∙ records_cut 4 good BrokenAutomaton bs (c.args.at + 1) n i (omega arith) (omega arith))
 
-pub returns-then-not-good-automaton : goal.returns-then-not-good-automaton
-returns-then-not-good-automaton c =
+pub returns-then-not-good_automaton : goal.returns-then-not-good_automaton
+returns-then-not-good_automaton c =
     let bs = c.args.bytes.now in
     let good : ℕ → Bool = automaton_good c.args.bytes.now (c.args.at + 1) in
-    let n = c.in-ok-count.count - c.loop-k.k in
+    let n = c.in_ok-count.count - c.loop-k.k in
     let i = c.loop-k.k in
-    sym (c.loop-k.invariant.0 ∙ records_broken 4 good BrokenAutomaton bs (c.args.at + 1) n i (omega arith) (omega arith) (sym c.good-automaton.ensures ∙ c.if-not-good-automaton.true))
+    sym (c.loop-k.invariant.0 ∙ records_broken 4 good BrokenAutomaton bs (c.args.at + 1) n i (omega arith) (omega arith) (sym c.good_automaton.ensures ∙ c.if-not-good_automaton.true))
 
 pub loop-k-preserved : goal.loop-k-preserved
 loop-k-preserved c =

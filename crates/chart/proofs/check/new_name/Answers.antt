@@ -9,10 +9,10 @@ use Rattle.chart.proofs.check.new_name.Goals as goal
 pub loop-j-init : goal.loop-j-init
 loop-j-init c = all_below_none _
 
-pub returns-then-same-name : goal.returns-then-same-name
-returns-then-same-name c =
+pub returns-then-same_name : goal.returns-then-same_name
+returns-then-same_name c =
     let test : ℕ → Bool = λ j. not (same_eight c.args.bytes.now (1 + 10 * j + 2) (1 + 10 * c.args.i + 2)) in
-    let no : test c.loop-j.j ≡ false = ap not (sym c.same-name.ensures ∙ c.if-same-name.true) in
+    let no : test c.loop-j.j ≡ false = ap not (sym c.same_name.ensures ∙ c.if-same_name.true) in
     sym (all_below_false test c.loop-j.j c.args.i (omega arith) no)
 
 pub loop-j-preserved : goal.loop-j-preserved
