@@ -1,4 +1,4 @@
-use Rattle.std.proofs.Common.{◌≡◌, ℕ, ◌+◌, ◌-◌, ◌*◌, Bool, Ok, sym, ap, ◌∙◌, arith}
+use Rattle.std.proofs.Common.{ℕ, ◌+◌, ◌-◌, ◌*◌, Bool, Ok, sym, ap, ◌∙◌, arith}
 use Rattle.chart.specs.Check.{signal_good, records}
 use Rattle.chart.specs.declared.fault.ChartFault.TheVariants.{BrokenSignal}
 use Rattle.chart.proofs.Walk.{records_none, records_cut, records_broken, records_more}

@@ -1,7 +1,6 @@
 use Rattle.std.proofs.Common.{◌≡◌, ℕ, ◌+◌, ◌*◌, Bool, true, false, not, ◌&&◌, eqb, sym, ◌∙◌, arith}
 use Rattle.std.proofs.lemmas.Bool.Decides.{nat_tests}
 use Rattle.bits.specs.Bits.{bit}
-use Rattle.chart.specs.Check.{same_eight}
 use Rattle.chart.specs.Places.{byte}
 use Rattle.chart.proofs.Below.{all_below_none, all_below_more, all_below_false}
 use Rattle.chart.proofs.check.emits_no_input.Goals as goal

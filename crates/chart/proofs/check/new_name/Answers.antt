@@ -1,8 +1,5 @@
-use Rattle.std.proofs.Common.{◌≡◌, ℕ, ◌+◌, ◌*◌, Bool, true, false, not, ◌&&◌, eqb, sym, ap, ◌∙◌, arith}
-use Rattle.std.proofs.lemmas.Bool.Decides.{nat_tests}
-use Rattle.bits.specs.Bits.{bit}
+use Rattle.std.proofs.Common.{◌≡◌, ℕ, ◌+◌, ◌*◌, Bool, true, false, not, sym, ap, ◌∙◌, arith}
 use Rattle.chart.specs.Check.{same_eight}
-use Rattle.chart.specs.Places.{byte}
 use Rattle.chart.proofs.Below.{all_below_none, all_below_more, all_below_false}
 use Rattle.chart.proofs.check.new_name.Goals as goal
 

@@ -1,6 +1,5 @@
-use Rattle.std.proofs.Common.{◌≡◌, ◌+◌, ◌*◌, sym, arith}
+use Rattle.std.proofs.Common.{◌+◌, sym, arith}
 use Rattle.chart.specs.Check.{automaton_good, signal_good}
-use Rattle.chart.specs.Places.{byte}
 use Rattle.chart.specs.declared.fault.ChartFault.TheVariants.{BrokenAutomaton, BrokenSignal}
 use Rattle.chart.proofs.Sections.{section_ok}
 use Rattle.chart.proofs.check.walk.Goals as goal

@@ -1,4 +1,3 @@
-use Rattle.std.proofs.Common.{arith}
 use Rattle.chart.proofs.Decoding.{named_beyond, named_within}
 use Rattle.chart.proofs.view.Chart.name.Goals as goal
 
