@@ -1,9 +1,9 @@
 -- The walk ends well exactly if the file keeps the layout. Assumes nothing.
-use Rattle.std.proofs.Common.{◌≡◌, ℕ, ◌+◌, ◌*◌, ◌<◌, ◌≤◌, Bool, true, false, cond, ltb, List, length, Ok, Err, Result, sym, refl, ap, ◌∙◌, subst, arith}
+use Rattle.std.proofs.Common.{◌≡◌, ℕ, ◌+◌, cond, ltb, List, length, Ok, Err, Result, subst, arith}
 use Rattle.std.proofs.lemmas.Bool.{cond-false, le-ltb, ltb-false}
 use Rattle.chart.specs.Check.{and_then, automaton_good, section, signal_good, transition_good, verdict}
 use Rattle.chart.specs.Layout.{Layout}
-use Rattle.chart.specs.Places.{byte, signal_count, automata_at, automaton_count, transitions_at, transition_count, end_of}
+use Rattle.chart.specs.Places.{signal_count, automata_at, automaton_count, transitions_at, end_of}
 use Rattle.chart.specs.declared.fault.ChartFault.{ChartFault}
 use Rattle.chart.specs.declared.fault.ChartFault.TheVariants.{BrokenSignal, BrokenAutomaton, BrokenTransition, BytesRemain}
 use Rattle.chart.proofs.AutomatonRules.{automata_good, automata_keep}

@@ -1,10 +1,10 @@
 -- What it means that the walk over a section, and over the file, ends well. Assumes nothing.
-use Rattle.std.proofs.Common.{◌≡◌, ℕ, zero, suc, ◌+◌, ◌*◌, ◌<◌, ◌≤◌, Bool, true, false, cond, ◌&&◌, ltb, leb, List, length, Ok, Err, Result, sym, refl, ap, ◌∙◌, subst, ⊎_elim, mul-zero, mul-suc, mul-add, add-one, arith}
-use Rattle.std.proofs.lemmas.Bool.{and_from, and_parts, cases_Bool, cases_eq, cond-true, cond-false, le-leb, leb-true, leb-false, lt-leb, le-ltb, ltb-false}
-use Rattle.chart.specs.Check.{and_then, automaton_good, counted, records, section, signal_good, transition_good, verdict}
+use Rattle.std.proofs.Common.{◌≡◌, ℕ, zero, suc, ◌+◌, ◌*◌, ◌<◌, ◌≤◌, Bool, true, false, cond, ◌&&◌, ltb, leb, List, length, Ok, Err, Result, sym, refl, ap, ◌∙◌, subst, ⊎_elim, mul-zero, mul-suc, mul-add, arith}
+use Rattle.std.proofs.lemmas.Bool.{and_from, and_parts, cases_eq, cond-true, cond-false, le-leb, leb-true, leb-false, lt-leb, le-ltb, ltb-false}
+use Rattle.chart.specs.Check.{and_then, counted, records, section}
 use Rattle.chart.specs.Places.{byte}
 use Rattle.chart.specs.declared.fault.ChartFault.{ChartFault}
-use Rattle.chart.specs.declared.fault.ChartFault.TheVariants.{EndsEarly, CountOutOfRange, BrokenSignal, BrokenAutomaton, BrokenTransition, BytesRemain}
+use Rattle.chart.specs.declared.fault.ChartFault.TheVariants.{EndsEarly, CountOutOfRange}
 
 -- a fault is no success
 no_fault : {A B : Type 0} (e : ChartFault) (a : A) → ◌≡◌ {A = Result A ChartFault} (Err e) (Ok a) → B

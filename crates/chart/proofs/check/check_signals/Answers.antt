@@ -1,4 +1,4 @@
-use Rattle.std.proofs.Common.{◌≡◌, ℕ, ◌+◌, ◌-◌, ◌*◌, Bool, Ok, sym, ap, ◌∙◌, arith}
+use Rattle.std.proofs.Common.{ℕ, ◌+◌, ◌-◌, ◌*◌, Bool, Ok, sym, ap, ◌∙◌, arith}
 use Rattle.chart.specs.Check.{signal_good, records}
 use Rattle.chart.specs.declared.fault.ChartFault.TheVariants.{BrokenSignal}
 use Rattle.chart.proofs.Walk.{records_none, records_cut, records_broken, records_more}
@@ -12,13 +12,13 @@ returns-then-bytes-at c =
     let i = c.loop-i.i in
     sym (c.loop-i.invariant ∙ records_cut 10 good BrokenSignal bs (1) n i (omega arith) (omega arith))
 
-pub returns-then-not-good-signal : goal.returns-then-not-good-signal
-returns-then-not-good-signal c =
+pub returns-then-not-good_signal : goal.returns-then-not-good_signal
+returns-then-not-good_signal c =
     let bs = c.args.bytes.now in
     let good : ℕ → Bool = signal_good c.args.bytes.now in
-    let n = c.in-ok-count.count - c.loop-i.i in
+    let n = c.in_ok-count.count - c.loop-i.i in
     let i = c.loop-i.i in
-    sym (c.loop-i.invariant ∙ records_broken 10 good BrokenSignal bs (1) n i (omega arith) (omega arith) (sym c.good-signal.ensures ∙ c.if-not-good-signal.true))
+    sym (c.loop-i.invariant ∙ records_broken 10 good BrokenSignal bs (1) n i (omega arith) (omega arith) (sym c.good_signal.ensures ∙ c.if-not-good_signal.true))
 
 pub loop-i-preserved : goal.loop-i-preserved
 loop-i-preserved c =

@@ -1,5 +1,5 @@
-use Rattle.std.proofs.Common.{◌≡◌, ◌+◌, ◌-◌, ◌≤◌}
-use Rattle.chart.specs.Check.{signal_good, records, section, states_upto}
+use Rattle.std.proofs.Common.{◌≡◌, ◌-◌}
+use Rattle.chart.specs.Check.{signal_good, records, section}
 use Rattle.chart.specs.declared.fault.ChartFault.TheVariants.{BrokenSignal}
 use Rattle.chart.proofs.check.check_signals.Given as goal
 

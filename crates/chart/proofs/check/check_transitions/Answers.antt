@@ -1,4 +1,4 @@
-use Rattle.std.proofs.Common.{◌≡◌, ℕ, ◌+◌, ◌-◌, ◌*◌, Bool, Ok, sym, ap, ◌∙◌, arith}
+use Rattle.std.proofs.Common.{ℕ, ◌+◌, ◌-◌, ◌*◌, Bool, Ok, sym, ap, ◌∙◌, arith}
 use Rattle.chart.specs.Check.{transition_good, records}
 use Rattle.chart.specs.declared.fault.ChartFault.TheVariants.{BrokenTransition}
 use Rattle.chart.proofs.Walk.{records_none, records_cut, records_broken, records_more}
@@ -12,13 +12,13 @@ returns-then-bytes-place c =
     let i = c.loop-i.i in
     sym (c.loop-i.invariant ∙ records_cut 31 good BrokenTransition bs (c.args.at + 1) n i (omega arith) (omega arith))
 
-pub returns-then-not-good-transition : goal.returns-then-not-good-transition
-returns-then-not-good-transition c =
+pub returns-then-not-good_transition : goal.returns-then-not-good_transition
+returns-then-not-good_transition c =
     let bs = c.args.bytes.now in
     let good : ℕ → Bool = transition_good c.args.bytes.now c.args.automata (c.args.at + 1) in
-    let n = c.in-ok-count.count - c.loop-i.i in
+    let n = c.in_ok-count.count - c.loop-i.i in
     let i = c.loop-i.i in
-    sym (c.loop-i.invariant ∙ records_broken 31 good BrokenTransition bs (c.args.at + 1) n i (omega arith) (omega arith) (sym c.good-transition.ensures ∙ c.if-not-good-transition.true))
+    sym (c.loop-i.invariant ∙ records_broken 31 good BrokenTransition bs (c.args.at + 1) n i (omega arith) (omega arith) (sym c.good_transition.ensures ∙ c.if-not-good_transition.true))
 
 pub loop-i-preserved : goal.loop-i-preserved
 loop-i-preserved c =

@@ -1,7 +1,5 @@
-use Rattle.std.proofs.Common.{◌≡◌, ◌+◌, ◌*◌, true, not, ◌&&◌, eqb}
-use Rattle.bits.specs.Bits.{bit}
+use Rattle.std.proofs.Common.{◌≡◌, ◌+◌, ◌*◌, true, not}
 use Rattle.chart.specs.Check.{all_below, same_eight}
-use Rattle.chart.specs.Places.{byte}
 use Rattle.chart.proofs.check.new_name.Given as goal
 
 abbrev pub invariant-loop-j : goal.invariant-loop-j

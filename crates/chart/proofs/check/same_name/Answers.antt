@@ -1,7 +1,5 @@
-use Rattle.std.proofs.Common.{◌≡◌, ℕ, ◌+◌, ◌*◌, Bool, true, false, not, ◌&&◌, eqb, sym, ◌∙◌, arith}
+use Rattle.std.proofs.Common.{◌≡◌, ℕ, ◌+◌, Bool, true, false, eqb, sym, arith}
 use Rattle.std.proofs.lemmas.Bool.{eq-eqb, ne_eqb}
-use Rattle.bits.specs.Bits.{bit}
-use Rattle.chart.specs.Check.{same_eight}
 use Rattle.chart.specs.Places.{byte}
 use Rattle.chart.proofs.Below.{all_below_none, all_below_more, all_below_false}
 use Rattle.chart.proofs.check.same_name.Goals as goal

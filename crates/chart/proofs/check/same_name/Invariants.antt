@@ -1,6 +1,5 @@
-use Rattle.std.proofs.Common.{◌≡◌, ◌+◌, ◌*◌, true, not, ◌&&◌, eqb}
-use Rattle.bits.specs.Bits.{bit}
-use Rattle.chart.specs.Check.{all_below, same_eight}
+use Rattle.std.proofs.Common.{◌≡◌, ◌+◌, true, eqb}
+use Rattle.chart.specs.Check.{all_below}
 use Rattle.chart.specs.Places.{byte}
 use Rattle.chart.proofs.check.same_name.Given as goal
 

@@ -1,4 +1,4 @@
 use Rattle.chart.proofs.view.view.Goals as goal
 
-pub invariant-of-result : goal.invariant-of-result
-invariant-of-result c = (c.requires.ends, (∣ c.requires ∣₁, tt))
+pub invariant_of-result : goal.invariant_of-result
+invariant_of-result c = record { ends = c.requires.ends; layout = ∣ c.requires ∣₁ }

@@ -4,8 +4,8 @@ use Rattle.chart.specs.Places.{byte}
 use Rattle.chart.proofs.Decoding.{automaton_some, automaton_none}
 use Rattle.chart.proofs.view.Chart.automaton.Goals as goal
 
-pub returns-in-err-at : goal.returns-in-err-at
-returns-in-err-at c = c.from-residual.ensures ∙ sym (automaton_none c.args.self.now.bytes.now c.args.k c.in-err-at.ensures)
+pub returns-in_err-at : goal.returns-in_err-at
+returns-in_err-at c = c.from_residual.ensures ∙ sym (automaton_none c.args.self.now.bytes.now c.args.k c.in_err-at.ensures)
 
 pub returns : goal.returns
 returns c =

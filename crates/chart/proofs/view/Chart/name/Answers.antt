@@ -1,9 +1,8 @@
-use Rattle.std.proofs.Common.{arith}
 use Rattle.chart.proofs.Decoding.{named_beyond, named_within}
 use Rattle.chart.proofs.view.Chart.name.Goals as goal
 
-pub returns-in-default : goal.returns-in-default
-returns-in-default c = named_beyond c.args.self.now.bytes.now c.args.i c.in-default.ensures
+pub returns-in_default : goal.returns-in_default
+returns-in_default c = named_beyond c.args.self.now.bytes.now c.args.i c.in_default.ensures
 
 pub returns : goal.returns
 returns c =

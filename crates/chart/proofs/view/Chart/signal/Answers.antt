@@ -4,8 +4,8 @@ use Rattle.chart.specs.Places.{byte}
 use Rattle.chart.proofs.Decoding.{signal_some, signal_none}
 use Rattle.chart.proofs.view.Chart.signal.Goals as goal
 
-pub returns-in-err-at : goal.returns-in-err-at
-returns-in-err-at c = c.from-residual.ensures ∙ sym (signal_none c.args.self.now.bytes.now c.args.i c.in-err-at.ensures)
+pub returns-in_err-at : goal.returns-in_err-at
+returns-in_err-at c = c.from_residual.ensures ∙ sym (signal_none c.args.self.now.bytes.now c.args.i c.in_err-at.ensures)
 
 pub returns : goal.returns
 returns c =

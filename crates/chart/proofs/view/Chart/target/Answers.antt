@@ -5,10 +5,10 @@ use Rattle.chart.specs.declared.transition.Transition.{Transition}
 use Rattle.chart.proofs.Decoding.{transition_some, transition_none}
 use Rattle.chart.proofs.view.Chart.target.Goals as goal
 
-pub returns-in-err-at : goal.returns-in-err-at
-returns-in-err-at c =
+pub returns-in_err-at : goal.returns-in_err-at
+returns-in_err-at c =
     let bs = c.args.self.now.bytes.now in
-    c.from-residual.ensures ∙ sym (ap (option_map (λ (t : Transition). t.target)) (transition_none bs c.args.i c.in-err-at.ensures))
+    c.from_residual.ensures ∙ sym (ap (option_map (λ (t : Transition). t.target)) (transition_none bs c.args.i c.in_err-at.ensures))
 
 pub returns : goal.returns
 returns c =

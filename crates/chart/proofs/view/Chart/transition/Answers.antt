@@ -3,8 +3,8 @@ use Rattle.chart.specs.Places.{byte, number4, number8}
 use Rattle.chart.proofs.Decoding.{transition_some, transition_none}
 use Rattle.chart.proofs.view.Chart.transition.Goals as goal
 
-pub returns-in-err-at : goal.returns-in-err-at
-returns-in-err-at c = c.from-residual.ensures ∙ sym (transition_none c.args.self.now.bytes.now c.args.i c.in-err-at.ensures)
+pub returns-in_err-at : goal.returns-in_err-at
+returns-in_err-at c = c.from_residual.ensures ∙ sym (transition_none c.args.self.now.bytes.now c.args.i c.in_err-at.ensures)
 
 pub returns : goal.returns
 returns c =
@@ -12,8 +12,8 @@ returns c =
     let h = c.in_ok-at.ensures in
     let needed = c.read_u64.ensures ∙ ap (λ p. number8 bs (p + 3)) h.1 in
     let forbidden = c.read_u64-2.ensures ∙ ap (λ p. number8 bs (p + 11)) h.1 in
-    let emitted = c.read-u64-3.ensures ∙ ap (λ p. number8 bs (p + 19)) h.1 in
-    let amount = c.read-u32.ensures ∙ ap (λ p. number4 bs (p + 27)) h.1 in
+    let emitted = c.read_u64-3.ensures ∙ ap (λ p. number8 bs (p + 19)) h.1 in
+    let amount = c.read_u32.ensures ∙ ap (λ p. number4 bs (p + 27)) h.1 in
     (λ k. Some (record {
       automaton = byte bs (h.1 k);
       source = byte bs (h.1 k + 1);
