@@ -27,8 +27,8 @@ pub trait Combining {
 
 // The value of all amounts; any order of them gives the same.
 pub fn combine<K: Combining>(kind: &K, amounts: &[u32]) -> K::Value
-    ensures value { result ≡ combined (combination kind.now) amounts.now }
-    ensures any_order { (others : List ℕ) → IsPermutation amounts.now others → result ≡ combined (combination kind.now) others }
+    ensures value { result ≡ combined (K.combination kind.now) amounts.now }
+    ensures any_order { (others : List ℕ) → IsPermutation amounts.now others → result ≡ combined (K.combination kind.now) others }
 {
     let mut value = kind.neutral();
     for amount in amounts {
