@@ -1,12 +1,12 @@
 -- What is said of an instant holds of the answer that the rules give. Assumes nothing.
-use Rattle.std.proofs.Common.{◌≡◌, ℕ, ◌<◌, ◌≤◌, true, false, not, ◌&&◌, eqb, ltb, ◌⊎◌, List, length, get_or, Option, sym, refl, ap, ◌∙◌, subst, ⊎_elim, arith}
+use Rattle.std.proofs.Common.{◌≡◌, ℕ, ◌≤◌, false, not, eqb, ltb, ◌⊎◌, List, length, get_or, Option, sym, refl, ap, ◌∙◌, subst, ⊎_elim, arith}
 use Rattle.std.proofs.lemmas.List.{ext_get_or, take_all}
-use Rattle.std.proofs.lemmas.Bool.{and_from, and_parts, both_ways, cond_both, cond-false, cond-true, eq-eqb, le-ltb, lt-ltb, ne_eqb, not_from_true, not-true}
+use Rattle.std.proofs.lemmas.Bool.{and_from, both_ways, cond_both, cond-false, cond-true, eq-eqb, le-ltb, lt-ltb, ne_eqb, not_from_true}
 use Rattle.bits.specs.Bits.{bit}
 use Rattle.bits.proofs.Digits.{bit_zero}
 use Rattle.bits.proofs.Masks.{bit_mask, mask_cases}
 use Rattle.fixpoint.specs.Solver.{Solved}
-use Rattle.chart.specs.Decoded.{Decoded, input}
+use Rattle.chart.specs.Decoded.{Decoded}
 use Rattle.status.specs.Equations.{status_equations}
 use Rattle.status.specs.Fired.{has_fired}
 use Rattle.status.specs.Solved.{Resolved, is_unknown}

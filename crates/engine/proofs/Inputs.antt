@@ -1,13 +1,11 @@
 -- The bits of a mask that are not inputs. Assumes nothing.
-use Rattle.std.proofs.Common.{◌≡◌, ℕ, ◌-◌, ◌^◌, ◌<◌, ◌≤◌, Bool, true, false, not, ◌&&◌, ◌||◌, eqb, ltb, List, length, sym, ap, ◌∙◌, ⊎_elim, arith}
+use Rattle.std.proofs.Common.{◌≡◌, ℕ, ◌-◌, ◌^◌, ◌<◌, ◌≤◌, Bool, true, false, not, ◌&&◌, ◌||◌, eqb, ltb, length, sym, ap, ◌∙◌, ⊎_elim, arith}
 use lib.Bits.{bit_and, and_lt}
 use lib.Pow.{ones_sub-lt}
-use Rattle.std.specs.List.{slice_get}
 use Rattle.std.proofs.lemmas.Option.{slice_get_past}
 use Rattle.std.proofs.lemmas.Bool.{and_left, and_parts, both_ways, cases_Bool, cases_lt, le-ltb, lt-ltb, not-true}
 use Rattle.std.proofs.lemmas.Bool.Decides.{nat_tests}
 use Rattle.bits.specs.Bits.{bit}
-use Rattle.bits.specs.Masks.{mask_of}
 use Rattle.bits.proofs.Digits.{bit_above, bit_of_and, bit_complement, bit_zero}
 use Rattle.bits.proofs.Masks.{bit_mask, mask_cases, mask_small, same_word}
 use Rattle.chart.specs.Decoded.{Decoded, input, is_input_signal}

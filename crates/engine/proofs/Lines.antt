@@ -1,5 +1,5 @@
 -- A line depends on the places of the signals and of the automata alone. Assumes nothing.
-use Rattle.std.proofs.Common.{◌≡◌, ℕ, ◌<◌, Bool, cond, ◌&&◌, List, [], ◌∷◌, ◌++◌, length, get_or, take, None, codes, decimal, Option, sym, refl, ap, ◌∙◌, arith}
+use Rattle.std.proofs.Common.{◌≡◌, ℕ, ◌<◌, cond, ◌&&◌, List, [], ◌∷◌, ◌++◌, length, get_or, take, None, codes, decimal, Option, sym, refl, ap, ◌∙◌, arith}
 use Rattle.std.specs.List.{range_with_len, flat_map, AllByRecursion as All}
 use Rattle.std.proofs.lemmas.List.FromFn.{get_or-range_with_len, length-range_with_len}
 use Rattle.std.proofs.ByRecursion.{All-from_get_or}
@@ -8,7 +8,6 @@ use Rattle.chart.specs.Decoded.{Decoded}
 use Rattle.status.specs.Status.{unknown}
 use Rattle.status.specs.declared.status.Status.{Status}
 use Rattle.reaction.specs.Next.{padded}
-use Rattle.reaction.specs.Value.{present}
 use Rattle.reaction.proofs.Settling.{padded_read}
 use Rattle.trace.specs.Line.{line_of, output, output_text, signal_text, space_held, state_text}
 

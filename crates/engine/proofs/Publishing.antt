@@ -1,5 +1,5 @@
 -- Publishing: the worklist through three calls. Assumes nothing.
-use Rattle.std.proofs.Common.{◌≡◌, ℕ, ◌^◌, ◌<◌, ◌≤◌, Bool, true, false, eqb, ◌⊎◌, List, [], ◌∷◌, ◌++◌, length, Some, Ok, Err, Result, sym, refl, ap, ◌∙◌, subst, inl, inr, ⊎_elim, arith}
+use Rattle.std.proofs.Common.{◌≡◌, ℕ, ◌^◌, ◌<◌, ◌≤◌, Bool, false, ◌⊎◌, List, [], ◌∷◌, ◌++◌, length, Some, Ok, Err, Result, sym, refl, ap, ◌∙◌, subst, inl, inr, ⊎_elim, arith}
 use Rattle.std.proofs.lemmas.Bool.{cases_eq, cases_lt}
 use Rattle.fixpoint.specs.Solver.{Solved}
 use Rattle.fixpoint.specs.System.{Equations}
@@ -13,7 +13,7 @@ use Rattle.engine.specs.Publish.{Makes, Solves, Solving, Worked, told_call}
 use Rattle.engine.specs.Runner.{Takes}
 use Rattle.engine.specs.Story.{Behind, Told}
 use Rattle.engine.specs.declared.publish.NextCall.{NextCall}
-use Rattle.engine.specs.declared.publish.NextCall.TheVariants.{Reset, Instant}
+use Rattle.engine.specs.declared.publish.NextCall.TheVariants.{Instant}
 use Rattle.engine.proofs.Inputs.{inputs_only, only_inputs}
 
 -- solving, the worklist aside

@@ -1,7 +1,7 @@
 -- Stories: one more call, the one story of a list of calls, and induction over stories. Assumes nothing.
-use Rattle.std.proofs.Common.{◌≡◌, ℕ, List, [], ◌∷◌, ◌++◌, map, sym, refl, ap, ◌∙◌, subst, arith}
+use Rattle.std.proofs.Common.{◌≡◌, ℕ, List, [], ◌∷◌, ◌++◌, map, sym, refl, ap, ◌∙◌, subst}
 use Rattle.chart.specs.Decoded.{Decoded, decode}
-use Rattle.engine.specs.Answer.{Held, Outcome, Reply, at_start, outcome_of}
+use Rattle.engine.specs.Answer.{Held, at_start, outcome_of}
 use Rattle.engine.specs.Story.{Behind, Call, Follows, OneStory, Told, answered, call_of, held_after, instant, reset, story_of, was_reset}
 
 module _ (c : Decoded) where

@@ -2,7 +2,6 @@
 use Rattle.std.proofs.Common.{◌≡◌, ℕ, ◌+◌, ◌^◌, ◌<◌, ◌≤◌, Bool, true, false, cond, not, eqb, ltb, List, ◌++◌, length, take, drop, Ok, Err, Option, Result, sym, refl, ap, ◌∙◌, subst, ⊎_elim, arith}
 use Rattle.std.proofs.lemmas.Bool.{cases_Bool, cases_lt, cond-true, cond-false, eq-eqb, le-ltb, lt-ltb, ne_eqb}
 use Rattle.fixpoint.specs.Marks.{marked}
-use Rattle.fixpoint.specs.Solver.{Solved}
 use Rattle.fixpoint.specs.System.{least}
 use Rattle.chart.specs.Decoded.{Decoded}
 use Rattle.status.specs.Equations.{status_equations}
@@ -17,7 +16,7 @@ use Rattle.reaction.specs.declared.fault.InstantFault.{InstantFault}
 use Rattle.reaction.specs.declared.fault.InstantFault.TheVariants.{LongLine, NotInputs, Unresolved}
 use Rattle.reaction.specs.declared.react.Step.{Step}
 use Rattle.trace.specs.Line.{line_of, write_answer, write_buffer}
-use Rattle.engine.specs.Answer.{Held, Reply, accepted, not_inputs, outcome_of, publishes, refused, refuses, writes}
+use Rattle.engine.specs.Answer.{Held, accepted, not_inputs, outcome_of, publishes, refuses, writes}
 use Rattle.engine.specs.Instant.{Passes}
 use Rattle.engine.specs.Runner.{Given, Takes, held}
 use Rattle.engine.proofs.Inputs.{inputs_only, only_inputs}

@@ -1,16 +1,13 @@
 -- The whole promise holds. Assumes nothing.
-use Rattle.std.proofs.Common.{◌≡◌, ℕ, ◌≤◌, List, map, length, sym, refl, ap, ◌∙◌, arith}
-use Rattle.fixpoint.specs.System.{Assignment, Closed}
+use Rattle.std.proofs.Common.{◌≡◌, ℕ, List, map, sym, ap, ◌∙◌, arith}
+use Rattle.fixpoint.specs.System.{Assignment}
 use Rattle.fixpoint.proofs.Leastness.{solution_closed}
 use Rattle.chart.specs.Decoded.{decode}
-use Rattle.chart.specs.Layout.{Layout}
 use Rattle.analysis.specs.Reach.{reach_equations}
 use Rattle.analysis.specs.ReachLaws.{chart_laws}
-use Rattle.analysis.specs.declared.stateset.StateSet.{StateSet}
 use Rattle.engine.specs.Answer.{Held, at_start}
-use Rattle.engine.specs.Instant.{Least}
 use Rattle.engine.specs.Story.{Behind, Told, call_of, held_after, story_of}
-use Rattle.engine.specs.Theorem.{FileLaw, Theorem}
+use Rattle.engine.specs.Theorem.{Theorem}
 use Rattle.engine.proofs.Stories.{one_story, story_only}
 use Rattle.engine.proofs.StoryLaw.{story_law}
 use Rattle.engine.proofs.StoryReached.{story_reached}

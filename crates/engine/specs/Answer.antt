@@ -1,5 +1,5 @@
 -- What an instant answers, and what is held after it. Assumes nothing.
-use Rattle.std.specs.Prelude.{ℕ, ◌+◌, Bool, cond, not, ◌&&◌, List, length, Option, ◌==◌, nat_lt}
+use Rattle.std.specs.Prelude.{ℕ, ◌+◌, cond, not, ◌&&◌, List, length, Option, ◌==◌, nat_lt}
 use Rattle.bits.specs.Bits.{bit}
 use Rattle.bits.specs.Masks.{mask_of}
 use Rattle.chart.specs.Decoded.{Decoded, input}

@@ -1,7 +1,7 @@
 -- Stories: the calls on a runner with their answers. Assumes nothing.
 use Rattle.std.specs.Prelude.{◌≡◌, ℕ, List, [], ◌∷◌, map}
 use Rattle.chart.specs.Decoded.{Decoded, decode}
-use Rattle.engine.specs.Answer.{Held, Outcome, Reply, at_start, outcome_of}
+use Rattle.engine.specs.Answer.{Held, Reply, at_start, outcome_of}
 
 -- a call on a runner: a reset, or an instant with a mask, a number of places and room for so many bytes
 pub data Call : Type 0 where

@@ -1,5 +1,5 @@
 -- What an automaton does by itself, found by looking through the transitions. Assumes nothing.
-use Rattle.std.proofs.Common.{◌≡◌, ℕ, ◌+◌, ◌<◌, ◌≤◌, Bool, true, false, ◌&&◌, eqb, List, map, length, drop, Some, filter, Option, sym, ap, ◌∙◌}
+use Rattle.std.proofs.Common.{◌≡◌, ℕ, ◌+◌, ◌<◌, ◌≤◌, Bool, true, false, ◌&&◌, eqb, map, length, drop, Some, filter, Option, sym, ap, ◌∙◌}
 use Rattle.std.specs.List.{range_with_len}
 use Rattle.chart.specs.Decoded.{Decoded, transition}
 use Rattle.reaction.specs.Next.{became, fired_by, moved}

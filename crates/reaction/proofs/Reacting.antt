@@ -1,18 +1,16 @@
 -- The answer of an instant agrees with what its equations come to. Assumes nothing.
-use Rattle.std.proofs.Common.{◌≡◌, ℕ, ◌*◌, ◌^◌, ◌<◌, ◌≤◌, Bool, true, false, cond, ◌&&◌, eqb, ltb, List, map, length, get_or, take, None, Ok, Err, Option, Result, sym, refl, ap, ◌∙◌, subst, arith, pow_mono}
+use Rattle.std.proofs.Common.{◌≡◌, ℕ, ◌*◌, ◌^◌, ◌<◌, ◌≤◌, Bool, true, false, cond, ◌&&◌, eqb, ltb, List, map, length, get_or, take, None, Ok, Err, Option, sym, refl, ap, ◌∙◌, subst, arith, pow_mono}
 use Rattle.std.specs.List.{range_with_len, slice_get}
 use Rattle.std.proofs.lemmas.List.FromFn.{fill_by_all, get_or-map-range_with_len, length-map-range_with_len}
 use Rattle.std.proofs.lemmas.List.{get_or-take, length-take, take-take}
 use Rattle.std.proofs.lemmas.Bool.{cond-true, cond-false, eq-eqb, ne_eqb}
-use Rattle.bits.specs.Masks.{mask_of}
 use Rattle.bits.proofs.Masks.{bit_mask, mask_same, mask_small, same_word}
 use Rattle.fixpoint.specs.Marks.{marked}
-use Rattle.fixpoint.specs.System.{least, rounds}
 use Rattle.fixpoint.proofs.Leastness.{length_rounds}
 use Rattle.chart.specs.Decoded.{Decoded, decode}
 use Rattle.chart.specs.Layout.{Layout}
 use Rattle.chart.proofs.Decoding.{few_signals}
-use Rattle.status.specs.Equations.{assigned, status_equations}
+use Rattle.status.specs.Equations.{status_equations}
 use Rattle.status.specs.Fired.{FiredUnder, fires, has_fired}
 use Rattle.status.specs.Solved.{Resolved, is_unknown}
 use Rattle.status.specs.Status.{unknown}
@@ -20,9 +18,8 @@ use Rattle.status.specs.StatusLaws.{status_laws}
 use Rattle.status.specs.declared.configuration.Configuration.{Configuration}
 use Rattle.status.specs.declared.status.Status.{Status}
 use Rattle.reaction.specs.Next.{next, padded}
-use Rattle.reaction.specs.React.{Agrees, Reaction, Reacts, decided, react, reaction, undecided, unresolved_in}
+use Rattle.reaction.specs.React.{Agrees, Reacts, decided, react, reaction, undecided, unresolved_in}
 use Rattle.reaction.specs.Value.{amounts_of, signal_value, value_of, values}
-use Rattle.reaction.specs.declared.fault.Fault.{Fault}
 use Rattle.reaction.specs.declared.fault.Fault.TheVariants.{Instant}
 use Rattle.reaction.specs.declared.fault.InstantFault.TheVariants.{Unresolved}
 use Rattle.reaction.specs.declared.react.Step.{Step}

@@ -1,8 +1,7 @@
-use Rattle.std.proofs.Common.{◌≡◌, ◌<◌, ◌≤◌, length, sym, refl, ap, ◌∙◌, arith}
+use Rattle.std.proofs.Common.{◌<◌, length, sym, refl, ◌∙◌, arith}
 use Rattle.std.proofs.lemmas.Result.{err_from_is_err_and}
 use Rattle.chart.specs.Decoded.{decode}
 use Rattle.status.proofs.Resolving.{not_refused}
-use Rattle.engine.specs.Answer.{not_inputs}
 use Rattle.engine.specs.Runner.{held}
 use Rattle.engine.proofs.Taking.{takes_long, takes_others, takes_stopped, takes_written}
 use Rattle.engine.proofs.calls.take_instant.Goals as goal

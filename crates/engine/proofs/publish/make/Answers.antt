@@ -1,4 +1,4 @@
-use Rattle.std.proofs.Common.{length, arith}
+use Rattle.std.proofs.Common.{arith}
 use Rattle.chart.specs.Decoded.{decode}
 use Rattle.engine.specs.Runner.{held}
 use Rattle.engine.proofs.Publishing.{made}

@@ -1,8 +1,8 @@
-use Rattle.std.proofs.Common.{◌≡◌, ◌≤◌, length, sym, ap, subst, arith}
+use Rattle.std.proofs.Common.{subst, arith}
 use Rattle.fixpoint.specs.System.{Assignment}
 use Rattle.fixpoint.proofs.Leastness.{solution_closed}
 use Rattle.chart.specs.Decoded.{decode}
-use Rattle.analysis.specs.Reach.{reach_equations, unknowns}
+use Rattle.analysis.specs.Reach.{reach_equations}
 use Rattle.analysis.specs.ReachLaws.{chart_laws}
 use Rattle.engine.specs.Runner.{held}
 use Rattle.engine.specs.Story.{Behind}

@@ -1,4 +1,4 @@
-use Rattle.std.proofs.Common.{◌≡◌, ap, ◌∙◌, arith}
+use Rattle.std.proofs.Common.{ap, ◌∙◌, arith}
 use Rattle.chart.specs.Decoded.{decode}
 use Rattle.reaction.specs.Next.{no_automaton, started}
 use Rattle.reaction.proofs.Settling.{nth_none, nth_some}

@@ -1,4 +1,4 @@
-use Rattle.std.proofs.Common.{◌≡◌, ℕ, ◌+◌, ◌<◌, ◌≤◌, Bool, ◌&&◌, map, length, take, sym, refl, ap, ◌∙◌, arith}
+use Rattle.std.proofs.Common.{◌≡◌, ℕ, ◌<◌, Bool, ◌&&◌, map, length, take, sym, refl, ap, ◌∙◌, arith}
 use Rattle.bits.specs.Bits.{bit}
 use Rattle.chart.specs.Decoded.{decode, transition}
 use Rattle.fixpoint.specs.Marks.{marked}
