@@ -5,7 +5,7 @@ use mathlib.Core.HLevel.{is_prop→PathP}
 use Rattle.std.proofs.Math.Bridge.{le_prop}
 use Rattle.std.specs.Int.Bits.{bit_or, or_self, or_zero_l}
 use Rattle.std.proofs.lemmas.Nat.{or_comm, ones-le}
-use Rattle.std.specs.List.{AllByRecursion as All, slice_get}
+use Rattle.std.specs.List.{AllByRecursion, slice_get}
 use Rattle.std.proofs.ByRecursion.{All-weaker}
 use Rattle.std.proofs.lemmas.List.{get_or-drop}
 use Rattle.std.proofs.lemmas.Bool.{false≢true, and_from, and_left, and_parts, and_right, cases_lt, cond-false, cond-true, eq-eqb, le-leb, le-ltb, lt-ltb, or_cases, or_left, or_right}
@@ -61,15 +61,15 @@ pub record Kept (B : Bool → Bool → Type 0) (S : StateSet → StateSet → Ty
 
 module _ (B : Bool → Bool → Type 0) (S : StateSet → StateSet → Type 0) (kept : Kept B S) where
   -- tests that are related at each element have related answers over a list
-  every_related : (p q : ℕ → Bool) (xs : List ℕ) → All (λ x. B (p x) (q x)) xs → B (every p xs) (every q xs)
+  every_related : (p q : ℕ → Bool) (xs : List ℕ) → AllByRecursion (λ x. B (p x) (q x)) xs → B (every p xs) (every q xs)
   every_related p q [] h = kept.same true
   every_related p q (x ∷ xs) h = kept.ands (p x) (q x) (every p xs) (every q xs) h.0 (every_related p q xs h.1)
 
-  some_related : (p q : Transition → Bool) (ts : List Transition) → All (λ t. B (p t) (q t)) ts → B (some p ts) (some q ts)
+  some_related : (p q : Transition → Bool) (ts : List Transition) → AllByRecursion (λ t. B (p t) (q t)) ts → B (some p ts) (some q ts)
   some_related p q [] h = kept.same false
   some_related p q (t ∷ ts) h = kept.ors (p t) (q t) (some p ts) (some q ts) h.0 (some_related p q ts h.1)
 
-  targets_related : (p q : Transition → Bool) (ts : List Transition) → All (λ t. B (p t) (q t)) ts → S (targets p ts) (targets q ts)
+  targets_related : (p q : Transition → Bool) (ts : List Transition) → AllByRecursion (λ t. B (p t) (q t)) ts → S (targets p ts) (targets q ts)
   unfolding targets
   targets_related p q [] h = kept.blank
   targets_related p q (t ∷ ts) h =
@@ -112,7 +112,7 @@ module _ (B : Bool → Bool → Type 0) (S : StateSet → StateSet → Type 0) (
 
     -- so for the possible ones among the transitions that pass a test
     tests_related : (f : Transition → Bool) (ts : List Transition) → ((j : ℕ) → some (λ t. f t && bears c j t) ts ≡ true → At j)
-        → All (λ t. B (f t && possible (reached_in c xs) (possible_in c xs) t) (f t && possible (reached_in c ys) (possible_in c ys) t)) ts
+        → AllByRecursion (λ t. B (f t && possible (reached_in c xs) (possible_in c xs) t) (f t && possible (reached_in c ys) (possible_in c ys) t)) ts
     tests_related f [] h = tt
     tests_related f (t ∷ ts) h = (
       after_test (f t) _ _ (λ e. possible_related t (λ j m. h j (or_left (f t && bears c j t) (some (λ u. f u && bears c j u) ts) (and_from (f t) (bears c j t) e m)))),

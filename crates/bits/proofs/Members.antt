@@ -2,7 +2,7 @@
 use Rattle.std.proofs.Common.{◌≡◌, ℕ, zero, suc, ◌-◌, ◌/◌, ◌^◌, ◌<◌, ◌≤◌, Bool, true, false, cond, not, ◌&&◌, ◌||◌, eqb, ltb, List, [], ◌∷◌, ◌++◌, map, get_or, Decides, filter, sym, refl, ap, ◌∙◌, ⊎_elim, pow-suc, arith}
 use mathlib.Core.Bool.{not-not, and_assoc, or_assoc}
 use lib.Bits.{bit_and}
-use Rattle.std.specs.List.{range_with_len, AllByRecursion as All}
+use Rattle.std.specs.List.{range_with_len, AllByRecursion}
 use Rattle.std.proofs.lemmas.List.FromFn.{length-range_with_len, get_or-range_with_len}
 use Rattle.std.proofs.ByRecursion.{All-get_or, All-from_get_or, kept_by_passes, Decides-by_and}
 use Rattle.std.proofs.lemmas.Bool.{and_from, and_parts, both_ways, cases_Bool, cases_lt, not-true}
@@ -50,7 +50,7 @@ pub apart_decides : (a b : ℕ) → Decides (eqb (bit_and a b) 0) ((s : ℕ) →
 apart_decides a b = Decides-like (eqb (bit_and a b) 0) (none_common a b) (and_zero a b) (Decides-eqb (bit_and a b) 0)
 
 -- the bits of a mask's members are set
-pub members_set : (mask : ℕ) → All (λ s. bit mask s ≡ true) (members mask)
+pub members_set : (mask : ℕ) → AllByRecursion (λ s. bit mask s ≡ true) (members mask)
 unfolding members
 members_set mask = kept_by_passes (bit mask) (range_with_len 0 64)
 
@@ -94,18 +94,18 @@ decides_follows true p = (λ e _. e, λ f. f refl)
 decides_follows false p = (λ _ e. absurd (both_ways false refl e), λ _. refl)
 
 -- each of those kept passes exactly if each element that is to be kept does
-every_kept_decides : (p q : ℕ → Bool) (xs : List ℕ) → Decides (every p (filter q xs)) (All (λ x. q x ≡ true → p x ≡ true) xs)
+every_kept_decides : (p q : ℕ → Bool) (xs : List ℕ) → Decides (every p (filter q xs)) (AllByRecursion (λ x. q x ≡ true → p x ≡ true) xs)
 every_kept_decides p q = Decides-by_and (λ x. not (q x) || p x) (λ x. q x ≡ true → p x ≡ true) (λ xs. every p (filter q xs)) (λ x. decides_follows (q x) (p x)) refl (every_kept_more p q)
 
 -- what holds of each number counted holds of each below the end
-below_from_all : (P : ℕ → Type 0) (n : ℕ) → All P (range_with_len 0 n) → (k : ℕ) → k < n → P k
+below_from_all : (P : ℕ → Type 0) (n : ℕ) → AllByRecursion P (range_with_len 0 n) → (k : ℕ) → k < n → P k
 below_from_all P n h k l =
     let long = length-range_with_len 0 n in
     let here : get_or (range_with_len 0 n) k 0 ≡ k = omega (arith, get_or-range_with_len 0 n k 0 l) in
     rw here at (All-get_or P (range_with_len 0 n) k 0 (omega arith) h)
 
 -- and the other way round
-all_from_below : (P : ℕ → Type 0) (n : ℕ) → ((k : ℕ) → k < n → P k) → All P (range_with_len 0 n)
+all_from_below : (P : ℕ → Type 0) (n : ℕ) → ((k : ℕ) → k < n → P k) → AllByRecursion P (range_with_len 0 n)
 all_from_below P n h =
     let long = length-range_with_len 0 n in
     All-from_get_or P (range_with_len 0 n) 0 (λ k l.

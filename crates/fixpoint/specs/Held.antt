@@ -1,7 +1,7 @@
 -- Lists of numbers, as a table holds them. Assumes nothing.
 use Rattle.std.specs.Prelude.{◌≡◌, ℕ, ◌+◌, ◌-◌, ◌<◌, ◌≤◌, Bool, true, false, cond, not, ◌&&◌, ◌||◌, ltb, List, [], ◌∷◌, ◌++◌, map, length, take, drop, Some, None, Decides, Option, MatchOption, ◌==◌, nat_eq, nat_lt, slice_index, refl}
 use Rattle.std.proofs.Common.{sym, ap, ◌∙◌, ⊎_elim, arith}
-use Rattle.std.specs.List.{range_with_len, AllByRecursion as All}
+use Rattle.std.specs.List.{range_with_len, AllByRecursion}
 use Rattle.std.proofs.lemmas.List.FromFn.{fill_by_all}
 use Rattle.std.proofs.ByRecursion.{All-append, All-drop, all_kept_by, All-get_or, Decides-by_and}
 use Rattle.std.proofs.lemmas.List.{at_drop_more, get_or-take, length-take, take_all, take_more}
@@ -35,7 +35,7 @@ has_without i j (x ∷ xs) = let e = has_without i j xs in
     (λ h. grind (arith, nat_tests)) (λ h. grind (arith, nat_tests))
 
 -- a list is small where each of its numbers is
-small_decides : (xs : List ℕ) → Decides (small xs) (All (λ x. x < 128) xs)
+small_decides : (xs : List ℕ) → Decides (small xs) (AllByRecursion (λ x. x < 128) xs)
 small_decides xs = Decides-by_and (λ x. ltb x 128) (λ x. x < 128) small (λ x. Decides-ltb x 128) refl (λ _ _. refl) xs
 
 -- one small number more

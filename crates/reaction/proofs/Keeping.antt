@@ -1,6 +1,6 @@
 -- What holds of each state that is held, from one configuration to the next. Assumes nothing.
 use Rattle.std.proofs.Common.{◌≡◌, ℕ, ◌+◌, ◌<◌, Bool, true, cond, List, [], ◌∷◌, ◌++◌, length, get_or, drop, Some, None, Option, sym, refl, ap, ◌∙◌, subst, ⊎_elim, arith}
-use Rattle.std.specs.List.{range_with_len, AllByRecursion as All}
+use Rattle.std.specs.List.{range_with_len, AllByRecursion}
 use Rattle.std.proofs.ByRecursion.{All-map, All-weaker, kept_by_passes}
 use Rattle.std.proofs.lemmas.List.{drop-drop, get_or_append_left, get_or-drop, get_or_past, get_or_push, length-drop, length_push}
 use Rattle.std.proofs.lemmas.Bool.{cases_order, cond_both, eqb-true, false≢true}
@@ -84,7 +84,7 @@ module _ (c : Decoded) (P : ℕ → ℕ → Type 0) (first : (k : ℕ) → k < l
   starting_kept = states_kept (λ k. started (automaton c k)) (λ k l on. of_some k (automaton c k).first (first k l on))
 
   -- an automaton moves to a target, or stays
-  moved_kept : (k : ℕ) (state : Option ℕ) → Of k state → (ts : List Transition) → All (λ t. P k t.target) ts → Of k (moved ts state).state
+  moved_kept : (k : ℕ) (state : Option ℕ) → Of k state → (ts : List Transition) → AllByRecursion (λ t. P k t.target) ts → Of k (moved ts state).state
   moved_kept k state held [] h = held
   moved_kept k state held (t ∷ ts) h = of_some k t.target h.0
 

@@ -3,20 +3,26 @@ use Rattle.std.specs.Prelude.{◌≡◌, ℕ, ◌<◌, ◌≤◌, Bool, true, fa
 use Rattle.std.proofs.Math.Path.{refl}
 use Rattle.std.proofs.Common.{ap, arith, lit<, lit≤}
 use Rattle.std.proofs.Math.Bool.{or_assoc, or_comm, or_self}
-use Rattle.std.specs.List.{AllZip, AllByRecursion as All}
+use Rattle.std.specs.List.{AllZip, AllByRecursion}
 use Rattle.std.proofs.ByRecursion.{All-weaker}
 use Rattle.std.proofs.lemmas.Bool.{true≢false, and_left, and_right, and_from, or_left, or_right, lt-ltb, le-ltb}
 use Rattle.bits.specs.Bits.{bit}
 use Rattle.bits.specs.Members.{members, some}
-use Rattle.bits.proofs.Members.{members_set}
+use Rattle.bits.proofs.Members
 use Rattle.fixpoint.specs.System.{Laws}
 use Rattle.fixpoint.proofs.Evaluating.{given_beyond, given_related, given_short, taken_related}
 use Rattle.fixpoint.proofs.Lattice.{joins_below}
-use Rattle.chart.specs.Decoded.{Decoded, input}
+use Rattle.chart.specs.Decoded.{Decoded, decode, input}
+use Rattle.chart.specs.Layout.{Layout}
+use Rattle.chart.proofs.Decoding
 use Rattle.chart.specs.declared.transition.Transition.{Transition}
 use Rattle.status.specs.Equations.{guard, rivals, firing, emits, firings, status_of, assigned, mentions, bears, hears, status_equations}
 use Rattle.status.specs.Status.{status, unknown, shown, opposite, united, marks, all, any, both}
 use Rattle.status.specs.declared.status.Status.{Status}
+
+-- a chart has at most 64 signals
+pub few_signals : (bs : List ℕ) → ∥ Layout bs ∥₁ → length (decode bs).signals ≤ 64
+few_signals bs t = Decoding.few_signals bs t
 
 -- a relation that holds of the constants, and that Not and And keep
 pub record Kept (R : Status → Status → Type 0) : Type 0 where
@@ -24,6 +30,10 @@ pub record Kept (R : Status → Status → Type 0) : Type 0 where
   pub shows : (b : Bool) → R (shown b) (shown b)
   pub nots : (a b : Status) → R a b → R (opposite a) (opposite b)
   pub ands : (a b c d : Status) → R a b → R c d → R (both a c) (both b d)
+
+-- the bits of a mask's members are set
+members_set : (mask : ℕ) → AllByRecursion (λ s. bit mask s ≡ true) (members mask)
+members_set mask = Members.members_set mask
 
 module _ (R : Status → Status → Type 0) (kept : Kept R) where
   -- related parts have a related And
@@ -45,11 +55,11 @@ module _ (R : Status → Status → Type 0) (kept : Kept R) where
   any_related xs ys h = kept.nots (all (map opposite xs)) (all (map opposite ys)) (all_related (map opposite xs) (map opposite ys) (each_opposite xs ys h))
 
   -- functions that are related at each element give related lists, also one after another
-  each_map : {A : Type 0} (f g : A → Status) (xs : List A) → All (λ x. R (f x) (g x)) xs → AllZip R (map f xs) (map g xs)
+  each_map : {A : Type 0} (f g : A → Status) (xs : List A) → AllByRecursion (λ x. R (f x) (g x)) xs → AllZip R (map f xs) (map g xs)
   each_map f g [] h = tt
   each_map f g (x ∷ xs) h = (h.0, each_map f g xs h.1)
 
-  each_maps : (f g p q : ℕ → Status) (xs ys : List ℕ) → All (λ x. R (f x) (g x)) xs → All (λ y. R (p y) (q y)) ys
+  each_maps : (f g p q : ℕ → Status) (xs ys : List ℕ) → AllByRecursion (λ x. R (f x) (g x)) xs → AllByRecursion (λ y. R (p y) (q y)) ys
       → AllZip R (map f xs ++ map p ys) (map g xs ++ map q ys)
   each_maps f g p q [] ys h k = each_map p q ys k
   each_maps f g p q (x ∷ xs) ys h k = (h.0, each_maps f g p q xs ys h.1 k)
@@ -68,7 +78,7 @@ module _ (R : Status → Status → Type 0) (kept : Kept R) where
 
     -- so for the Nots of the guards of several transitions
     guards_related : (es : List Transition) → ((j : ℕ) → some (mentions j) es ≡ true → R (u j) (v j))
-        → All (λ e. R (opposite (guard u e)) (opposite (guard v e))) es
+        → AllByRecursion (λ e. R (opposite (guard u e)) (opposite (guard v e))) es
     guards_related [] h = tt
     guards_related (e ∷ es) h = (
       kept.nots (guard u e) (guard v e) (guard_related e (λ j m. h j (or_left (mentions j e) (some (mentions j) es) m))),

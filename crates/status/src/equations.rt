@@ -1,14 +1,13 @@
 // The status system of one instant.
 ghost use Rattle.std.specs.Prelude.{◌≡◌, ℕ, ◌<◌, ◌≤◌, ◌&&◌, ◌||◌, [], length, take, MatchResult, ◌==◌};
 ghost use Rattle.bits.specs.Bits.{bit};
-ghost use Rattle.chart.specs.Decoded.{decode, transition};
-ghost use Rattle.chart.proofs.Decoding.{few_signals};
+ghost use Rattle.chart.specs.Decoded.{decode, input, transition};
 ghost use Rattle.status.specs.Configuration.{holds};
 ghost use Rattle.status.specs.Equations.{assigned, bears, emits, firing, guard, guarded, hears, live, mentions, status_equations, status_of};
 ghost use Rattle.fixpoint.specs.Marks.{marked};
 ghost use Rattle.status.specs.Fired.{FiredUnder, has_fired};
 ghost use Rattle.status.specs.Status.{both, either, opposite};
-ghost use Rattle.status.specs.StatusLaws.{status_laws};
+ghost use Rattle.status.specs.StatusLaws.{few_signals, status_laws};
 ghost use Rattle.status.specs.Words.{told};
 
 use crate::configuration::Configuration;
@@ -179,11 +178,18 @@ impl<'a, 'b> StatusSystem<'a, 'b> {
         self.live(k) & has_bit(self.chart.emitted(k).unwrap_or(0), s)
     }
 
+    // Whether signal s is an input.
+    fn is_input(&self, s: usize) -> bool
+        ensures { result ≡ input (decode self.now.chart.bytes.now) s }
+    {
+        self.chart.is_input(s)
+    }
+
     // The equation of signal s.
     fn status_of(&self, words: Words, s: usize) -> Status
         ensures { result ≡ status_of (decode self.now.chart.bytes.now) self.now.configuration.now.states self.now.mask (told words) s }
     {
-        if self.chart.is_input(s) {
+        if self.is_input(s) {
             let present = has_bit(self.mask, s);
             return Status {
                 present,
@@ -303,6 +309,6 @@ impl<'a, 'b> System for StatusSystem<'a, 'b> {
 
     fn reads(&self, i: usize, j: usize) -> bool {
         let n = self.chart.signals();
-        i < n && j < n && !self.chart.is_input(i) && self.hears(i, j)
+        i < n && j < n && !self.is_input(i) && self.hears(i, j)
     }
 }
