@@ -4,7 +4,7 @@ ghost use Rattle.fixpoint.specs.Arrival.{arrived, front, queue};
 ghost use Rattle.fixpoint.specs.Marks.{marked};
 ghost use Rattle.fixpoint.specs.Numbers.{has, distinct};
 ghost use Rattle.fixpoint.specs.Worklist.{Put, Taken, tally};
-ghost use Rattle.std.proofs.Common.{rules, arith};
+ghost use Rattle.std.proofs.Common.{rules};
 
 use crate::marks::Marks;
 use crate::worklist::Worklist;
@@ -39,7 +39,7 @@ impl ArrivalOrder {
 impl Worklist for ArrivalOrder {
     ghost waiting = { λ w j. has j (queue w.ring w.head w.len) };
 
-    ghost few = { first_of (Prim.search rules, Prim.grind (arith, Self.row.coded.inj)) };
+    ghost few = { Prim.search rules };
 
     fn put(&mut self, i: usize) -> bool
         ensures put { Put (λ (w : ArrivalOrder) j. has j (queue w.ring w.head w.len)) self.old i result self.new }
