@@ -1,13 +1,11 @@
 -- What an assignment has that is closed under the reach equations. Assumes nothing.
-use Rattle.std.proofs.Common.{◌≡◌, ℕ, zero, suc, ◌+◌, ◌-◌, ◌<◌, Bool, true, ◌||◌, eqb, ltb, List, [], ◌∷◌, length, get_or, drop, sym, refl, ap, ◌∙◌, mod-eq_of_lt, arith}
+use Rattle.std.proofs.Common.{◌≡◌, ℕ, zero, suc, ◌+◌, ◌-◌, ◌<◌, Bool, true, ◌||◌, eqb, ltb, List, [], ◌∷◌, length, get_or, drop, sym, refl, ap, ◌∙◌, arith}
 use Rattle.std.specs.List.{slice_get}
-use Rattle.std.proofs.lemmas.Nat.{pow_below}
 use Rattle.std.proofs.lemmas.List.{get_or-drop, get_or-take}
 use Rattle.std.proofs.lemmas.Option.{slice_get-get_or}
-use Rattle.std.proofs.lemmas.Bool.{and_from, cond-false, cond-true, eq-eqb, le-ltb, lt-ltb, or_left, or_right}
-use Rattle.bits.specs.Bits.{bit}
+use Rattle.std.proofs.lemmas.Bool.{and_from, cond-false, cond-true, eq-eqb, le-ltb, lt-ltb}
 use Rattle.bits.specs.Members.{some}
-use Rattle.bits.proofs.Digits.{bit_of_or, bit_pow}
+use Rattle.bits.proofs.Sets.{has_left, has_only_if, has_right}
 use Rattle.fixpoint.specs.System.{Assignment, Closed}
 use Rattle.fixpoint.proofs.Evaluating.{given_is}
 use Rattle.chart.specs.Decoded.{Decoded, decode, input, no_transition, transition}
@@ -16,20 +14,8 @@ use Rattle.chart.specs.declared.automaton.Automaton.{Automaton}
 use Rattle.chart.specs.declared.transition.Transition.{Transition}
 use Rattle.chart.proofs.Decoding.{automaton_there, first_small, target_small}
 use Rattle.analysis.specs.Reach.{emits, entered, moves, possible, possible_in, reach_equations, reach_of, reached_in, signal_of, started, states_of, targets, unknowns}
-use Rattle.analysis.specs.StateSet.{has, none, only_if, union}
-use Rattle.analysis.specs.declared.stateset.StateSet.{StateSet}
-
--- a union has what its left side has
-has_left : (a b : StateSet) (i : ℕ) → has a i ≡ true → has (union a b) i ≡ true
-has_left a b i e = bit_of_or a.bits b.bits i ∙ or_left (has a i) (has b i) e
-
--- and what its right side has
-has_right : (a b : StateSet) (i : ℕ) → has b i ≡ true → has (union a b) i ≡ true
-has_right a b i e = bit_of_or a.bits b.bits i ∙ or_right (has a i) (has b i) e
-
--- a number below 32 alone, where the test holds
-has_only_if : (test : Bool) (i : ℕ) → i < 32 → test ≡ true → has (only_if test i) i ≡ true
-has_only_if test i l e = ap (λ b. has (only_if b i) i) e ∙ ap (λ w. bit w i) (mod-eq_of_lt (pow_below i 32 l)) ∙ bit_pow i i ∙ eq-eqb i i refl
+use Rattle.bits.specs.Set.{has, none, only_if}
+use Rattle.bits.specs.declared.set.NumberSet.{NumberSet as StateSet}
 
 -- the targets have that of each transition that passes
 has_target : (p : Transition → Bool) (ts : List Transition) (i : ℕ) → i < length ts → p (get_or ts i no_transition) ≡ true → (get_or ts i no_transition).target < 32

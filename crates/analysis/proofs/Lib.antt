@@ -1,4 +1,3 @@
 pub mod Closure
 pub mod Loops
 pub mod Reading
-pub mod Sets

@@ -1,3 +1,3 @@
 pub mod Reach
 pub mod ReachLaws
-pub mod StateSet
+pub mod Reached

@@ -3,13 +3,13 @@ use Rattle.std.specs.Prelude.{ℕ, ◌+◌, ◌-◌, Bool, true, false, cond, �
 use Rattle.std.specs.List.{slice_get}
 use Rattle.bits.specs.Bits.{bit}
 use Rattle.bits.specs.Members.{members, every, some}
+use Rattle.bits.specs.Set.{none, only_if, union, has, size}
+use Rattle.bits.specs.declared.set.NumberSet.{NumberSet as StateSet}
 use Rattle.fixpoint.specs.System.{Equations}
 use Rattle.chart.specs.Decoded.{Decoded, input}
 use Rattle.chart.specs.declared.automaton.Automaton.{Automaton}
 use Rattle.chart.specs.declared.automaton.Owner.{Owner}
 use Rattle.chart.specs.declared.transition.Transition.{Transition}
-use Rattle.analysis.specs.StateSet.{none, only_if, union, has, size}
-use Rattle.analysis.specs.declared.stateset.StateSet.{StateSet}
 
 -- a transition is possible if its source is reached and all its needed signals are possible
 abbrev pub possible : (ℕ → ℕ → Bool) → (ℕ → Bool) → Transition → Bool

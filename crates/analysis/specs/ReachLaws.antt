@@ -1,19 +1,16 @@
 -- The reach equations keep the laws of a system. Assumes nothing.
-use Rattle.std.specs.Prelude.{◌≡◌, ℕ, ◌+◌, ◌-◌, ◌^◌, ◌<◌, ◌≤◌, Bool, true, false, ◌&&◌, ◌||◌, List, [], ◌∷◌, length, take, drop, Some, None, Option, ◌==◌, ◌≢◌, count_ones, nat_eq, nat_le, nat_lt, slice_index_or, refl}
-use Rattle.std.proofs.Common.{sym, ap, ◌∙◌, subst, ⊎_elim, arith}
-use mathlib.Core.HLevel.{is_prop→PathP}
-use Rattle.std.proofs.Math.Bridge.{le_prop}
-use Rattle.std.specs.Int.Bits.{bit_or, or_self, or_zero_l}
-use Rattle.std.proofs.lemmas.Nat.{or_comm, ones-le}
+use Rattle.std.specs.Prelude.{◌≡◌, ℕ, ◌+◌, ◌-◌, ◌<◌, ◌≤◌, Bool, true, false, ◌&&◌, ◌||◌, List, [], ◌∷◌, length, take, drop, Some, None, Option, ◌==◌, nat_eq, nat_le, nat_lt, slice_index_or, refl}
+use Rattle.std.proofs.Common.{sym, ap, ◌∙◌, ⊎_elim, arith}
 use Rattle.std.specs.List.{AllByRecursion, slice_get}
 use Rattle.std.proofs.ByRecursion.{All-weaker}
 use Rattle.std.proofs.lemmas.List.{get_or-drop}
 use Rattle.std.proofs.lemmas.Bool.{false≢true, and_from, and_left, and_parts, and_right, cases_lt, cond-false, cond-true, eq-eqb, le-leb, le-ltb, lt-ltb, or_cases, or_left, or_right}
 use Rattle.bits.specs.Bits.{bit}
 use Rattle.bits.specs.Members.{members, every, some}
-use Rattle.bits.proofs.Digits.{bit_of_or}
+use Rattle.bits.specs.Set.{none, only, only_if, union, has}
+use Rattle.bits.specs.declared.set.NumberSet.{NumberSet as StateSet}
 use Rattle.bits.proofs.Members.{members_set}
-use Rattle.bits.proofs.Unions.{or_assoc, or_rises}
+use Rattle.bits.proofs.Sets.{has_left, size_bounded, union_assoc, union_comm, union_none, union_rises, union_self}
 use Rattle.fixpoint.specs.System.{Laws}
 use Rattle.fixpoint.proofs.Evaluating.{given_beyond, given_related, given_short, taken_related}
 use Rattle.fixpoint.proofs.Lattice.{joins_below}
@@ -24,30 +21,6 @@ use Rattle.chart.specs.declared.automaton.Owner.{Owner}
 use Rattle.chart.specs.declared.transition.Transition.{Transition}
 use Rattle.chart.proofs.Decoding.{few_automata, few_signals}
 use Rattle.analysis.specs.Reach.{adds, bears, entered, hears, is_owner, owned_by, possible, possible_in, reach_equations, reach_of, reached_in, started, targets, unknowns}
-use Rattle.analysis.specs.StateSet.{none, only, only_if, union, has, size}
-use Rattle.analysis.specs.declared.stateset.StateSet.{StateSet}
-
--- sets with the same bits are the same
-pub same_bits : (a b : StateSet) → a.bits ≡ b.bits → a ≡ b
-same_bits a b e k = record { bits = e k; ok = is_prop→PathP (λ j. e j < 2 ^ 32) (λ j. le_prop) a.ok b.ok k }
-
-pub union_assoc : (a b c : StateSet) → union (union a b) c ≡ union a (union b c)
-union_assoc a b c = same_bits _ _ (or_assoc a.bits b.bits c.bits)
-
-pub union_comm : (a b : StateSet) → union a b ≡ union b a
-union_comm a b = same_bits _ _ (or_comm a.bits b.bits)
-
-pub union_self : (a : StateSet) → union a a ≡ a
-union_self a = same_bits _ _ (or_self a.bits)
-
-pub union_none : (a : StateSet) → union none a ≡ a
-union_none a = same_bits _ _ (or_zero_l a.bits)
-
-union_rises : (a b : StateSet) → (union a b ≢ a) → size a < size (union a b)
-union_rises a b d = ⊎_elim
-    (λ (e : bit_or a.bits b.bits ≡ a.bits). absurd (d (same_bits _ _ e)))
-    (λ (l : count_ones a.bits < count_ones (bit_or a.bits b.bits)). l)
-    (or_rises a.bits b.bits)
 
 -- a relation on tests and one on sets that And, Or, union and the two questions between tests and sets keep
 pub record Kept (B : Bool → Bool → Type 0) (S : StateSet → StateSet → Type 0) : Type 0 where
@@ -94,8 +67,8 @@ module _ (B : Bool → Bool → Type 0) (S : StateSet → StateSet → Type 0) (
     signal_related s h =
         let m = length c.automata in
         let n = length c.signals in
-        kept.holds (slice_index_or (take n (drop m xs)) s none) (slice_index_or (take n (drop m ys)) s none) 0 (taken_related none S kept.blank n (drop m xs) (drop m ys) s (λ l.
-        subst (λ a. S a (slice_index_or (drop m ys) s none)) (sym (get_or-drop m xs s none)) (subst (S (slice_index_or xs (m + s) none)) (sym (get_or-drop m ys s none)) (h (omega arith)))))
+        kept.holds (slice_index_or (take n (drop m xs)) s none) (slice_index_or (take n (drop m ys)) s none) 0
+        (taken_related none S kept.blank n (drop m xs) (drop m ys) s (λ l. rw (get_or-drop m xs s none, get_or-drop m ys s none) (h (omega arith))))
 
     -- so for whether a transition is possible, at each unknown that bears on it
     possible_related : (t : Transition) → ((j : ℕ) → bears c j t ≡ true → At j)
@@ -145,12 +118,12 @@ module _ (B : Bool → Bool → Type 0) (S : StateSet → StateSet → Type 0) (
         let own : Transition → Bool = λ t. nat_eq t.automaton i in
         let rest = targets_related (λ t. own t && px t) (λ t. own t && py t) ts (tests_related own ts (among own (λ t. cond-true (nat_lt i m) (own t) (bit t.emitted (i - m)) here))) in
         let first = started_related (slice_get c.automata i) (λ j r. h j (or_left (owned_by j (slice_get c.automata i)) _ r)) in
-        rw (here) (kept.unions _ _ _ _ first rest))
+        rw here (kept.unions _ _ _ _ first rest))
         (λ (l : m ≤ i).
         let here = le-ltb i m l in
         let out : Transition → Bool = λ t. bit t.emitted (i - m) in
         let rest = some_related (λ t. out t && px t) (λ t. out t && py t) ts (tests_related out ts (among out (λ t. cond-false (nat_lt i m) (t.automaton == i) (out t) here))) in
-        rw (here) (kept.only_ifs _ _ 0 (kept.ors (input c (i - m)) (input c (i - m)) _ _ (kept.same (input c (i - m))) rest)))
+        rw here (kept.only_ifs _ _ 0 (kept.ors (input c (i - m)) (input c (i - m)) _ _ (kept.same (input c (i - m))) rest)))
         (cases_lt i m)
 
     -- assignments that are related at each unknown that equation i hears give it related values
@@ -175,7 +148,7 @@ inclusion_kept = record {
   blank = union_none none;
   only_ifs = only_below;
   unions = joins_below union union_assoc union_comm;
-  holds = λ a b i p e. ap (λ x. has x i) (sym p) ∙ bit_of_or a.bits b.bits i ∙ or_left (has a i) (has b i) e;
+  holds = λ a b i p e. ap (λ x. has x i) (sym p) ∙ has_left a b i e;
 }
 
 equality_kept : Kept (λ a b. a ≡ b) (λ a b. a ≡ b)
@@ -200,7 +173,7 @@ reach_laws c few-a few-s =
       idempotent = union_self;
       neutral = union_none;
       rises = union_rises;
-      bounded = λ a. ones-le 32 a.bits a.ok;
+      bounded = size_bounded;
       few = omega arith;
       beyond = λ i xs. given_beyond none n i (value i) xs;
       short = λ i xs. given_short none n i (value i) xs;

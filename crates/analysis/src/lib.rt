@@ -2,4 +2,5 @@
 #![tactic(auto)]
 
 pub mod reach;
+mod reached;
 pub mod stateset;

@@ -7,25 +7,34 @@ mod words;
 
 use crate::reach::tell_reach;
 use crate::show::show;
-use chart::check::check;
-use chart::view::view;
+use chart::view::Chart;
 use std::process::ExitCode;
+use std::str::FromStr;
 use std::{env, fs};
 
 // What is asked of a chart file.
-#[derive(Clone, Copy)]
+#[derive(Clone, Copy, Debug, PartialEq, Eq)]
 enum Command {
     Check,
     Show,
     Reach,
 }
 
-fn asked(word: &str) -> Option<Command> {
-    match word {
-        "check" => Some(Command::Check),
-        "show" => Some(Command::Show),
-        "reach" => Some(Command::Reach),
-        _ => None,
+// A word that asks for nothing.
+#[derive(Clone, Copy, Debug, PartialEq, Eq)]
+struct NoCommand;
+
+// The command that a word names.
+impl FromStr for Command {
+    type Err = NoCommand;
+
+    fn from_str(word: &str) -> Result<Command, NoCommand> {
+        match word {
+            "check" => Ok(Command::Check),
+            "show" => Ok(Command::Show),
+            "reach" => Ok(Command::Reach),
+            _ => Err(NoCommand),
+        }
     }
 }
 
@@ -43,16 +52,17 @@ fn usage(rt: &HostRuntime) -> anyhow::Result<ExitCode> {
 
 // Carries out a command on the bytes of a file; it ends with status 1 where they break a rule.
 fn on_bytes(rt: &HostRuntime, command: Command, bytes: &[u8]) -> anyhow::Result<ExitCode> {
-    if let Err(fault) = check(bytes) {
-        let number = fault.number();
-        let detail = fault.detail();
-        println!(rt; "{number} {detail}")?;
-        return Ok(ExitCode::FAILURE);
-    }
+    let chart = match Chart::open(bytes) {
+        Ok(chart) => chart,
+        Err(fault) => {
+            println!(rt; "{fault}")?;
+            return Ok(ExitCode::FAILURE);
+        }
+    };
     match command {
         Command::Check => println!(rt; "ok")?,
-        Command::Show => show(rt, view(bytes))?,
-        Command::Reach => tell_reach(rt, view(bytes))?,
+        Command::Show => show(rt, chart)?,
+        Command::Reach => tell_reach(rt, chart)?,
     }
     Ok(ExitCode::SUCCESS)
 }
@@ -70,11 +80,11 @@ fn on_file(rt: &HostRuntime, command: Command, path: &str) -> anyhow::Result<Exi
 
 fn main(rt: HostRuntime) -> anyhow::Result<ExitCode> {
     let words: Vec<String> = env::args(&rt)?.collect(rt.alloc())?;
-    if words.len() != 3 {
-        return usage(&rt);
-    }
-    let Some(command) = asked(words[1].as_str()) else {
+    let [_, command, path] = words.as_slice() else {
         return usage(&rt);
     };
-    on_file(&rt, command, words[2].as_str())
+    match command.parse() {
+        Ok(command) => on_file(&rt, command, path.as_str()),
+        Err(NoCommand) => usage(&rt),
+    }
 }

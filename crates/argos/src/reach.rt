@@ -1,5 +1,5 @@
 // What a chart can reach, in words: which signals can be present, and which states each automaton can hold.
-use crate::words::print_name;
+use crate::words::Named;
 use analysis::reach::reach;
 use analysis::stateset::StateSet;
 use chart::automaton::Owner;
@@ -13,28 +13,30 @@ fn print_signals(rt: &HostRuntime, chart: Chart, sets: &[StateSet]) -> io::Resul
     println!(rt; "signals")?;
     let of_signals = sets.iter().skip(chart.automata());
     for (s, set) in of_signals.take(chart.signals()).enumerate() {
-        print!(rt; "  {s} ")?;
-        print_name(rt, chart, s)?;
+        let name = Named { chart, signal: s };
         let can = if set.holds(0) { "can" } else { "cannot" };
-        println!(rt; ": {can} be present")?;
+        println!(rt; "  {s} {name}: {can} be present")?;
     }
     Ok(())
 }
 
-// The states of an automaton that are in its set, or those that are not.
-fn print_states(rt: &HostRuntime, states: u8, set: &StateSet, inside: bool) -> io::Result<()> {
-    let can = if inside { "can" } else { "cannot" };
+// The states of an automaton that pass a test, after what is said of them.
+fn print_states<F: Fn(usize) -> bool>(
+    rt: &HostRuntime,
+    can: &str,
+    states: u8,
+    test: F,
+) -> io::Result<()>
+    requires { F.IsAlwaysCallable test }
+{
     print!(rt; "    {can} hold:")?;
-    let mut empty = true;
-    for state in 0..states {
-        if set.holds(usize::from(state)) == inside {
-            let comma = if empty { "" } else { "," };
-            print!(rt; "{comma} state {state}")?;
-            empty = false;
-        }
-    }
-    if empty {
-        print!(rt; " no state")?;
+    let mut passing = (0..states).filter(|state| test(usize::from(*state)));
+    let Some(first) = passing.next() else {
+        return println!(rt; " no state");
+    };
+    print!(rt; " state {first}")?;
+    for state in passing {
+        print!(rt; ", state {state}")?;
     }
     println!(rt; "")
 }
@@ -52,13 +54,11 @@ fn print_owner(rt: &HostRuntime, owner: Option<Owner>) -> io::Result<()> {
 // The states that each automaton can hold, and those that it cannot.
 fn print_automata(rt: &HostRuntime, chart: Chart, sets: &[StateSet]) -> io::Result<()> {
     println!(rt; "automata")?;
-    for (k, set) in sets.iter().take(chart.automata()).enumerate() {
-        if let Some(automaton) = chart.automaton(k) {
-            print!(rt; "  automaton {k}")?;
-            print_owner(rt, automaton.owner)?;
-            print_states(rt, automaton.states, set, true)?;
-            print_states(rt, automaton.states, set, false)?;
-        }
+    for ((k, set), automaton) in sets.iter().enumerate().zip(chart.all_automata()) {
+        print!(rt; "  automaton {k}")?;
+        print_owner(rt, automaton.owner)?;
+        print_states(rt, "can", automaton.states, |state| set.holds(state))?;
+        print_states(rt, "cannot", automaton.states, |state| !set.holds(state))?;
     }
     Ok(())
 }
@@ -66,10 +66,9 @@ fn print_automata(rt: &HostRuntime, chart: Chart, sets: &[StateSet]) -> io::Resu
 // A chart has at most 32 automata and 64 signals, so 96 places are always enough.
 pub fn tell_reach(rt: &HostRuntime, chart: Chart) -> io::Result<()> {
     let mut sets = [StateSet::empty(); 96];
-    match reach(chart, &mut sets, &mut LowestFirst::new()) {
-        Ok(()) => {}
-        Err(_) => unreachable(),
-    }
+    let Ok(()) = reach(chart, &mut sets, &mut LowestFirst::new()) else {
+        unreachable()
+    };
     print_signals(rt, chart, &sets)?;
     print_automata(rt, chart, &sets)
 }

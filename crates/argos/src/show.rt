@@ -1,11 +1,14 @@
 // A chart in words: its signals, then its automata as a tree, each state with its transitions and the automata inside it.
-ghost use Rattle.std.specs.Prelude.{◌<◌};
+// Runtime and chart stay parameters: a struct of the two would be no plainer, and who prints is seen by its signature.
+ghost use Rattle.std.specs.Prelude.{◌<◌, length};
+ghost use Rattle.chart.specs.Views.{decoded};
 
-use crate::words::{combining_words, kind_word, print_name, print_transition};
+use crate::words::{Named, Told, combining_words, kind_word};
 use chart::automaton::Automaton;
 use chart::view::Chart;
 use std::io;
 
+// Two blanks for each step.
 fn indent(rt: &HostRuntime, depth: usize) -> io::Result<()> {
     for _ in 0..depth {
         print!(rt; "  ")?;
@@ -13,21 +16,20 @@ fn indent(rt: &HostRuntime, depth: usize) -> io::Result<()> {
     Ok(())
 }
 
+// The signals, each with its number: paired with a range, since that the numbers of an enumeration fit would want a proof.
 fn print_signals(rt: &HostRuntime, chart: Chart) -> io::Result<()> {
     println!(rt; "signals")?;
-    for s in 0..chart.signals() {
-        if let Some(signal) = chart.signal(s) {
-            print!(rt; "  {s} ")?;
-            print_name(rt, chart, s)?;
-            let kind = kind_word(signal.kind);
-            let combining = combining_words(signal.combining);
-            println!(rt; ": {kind}{combining}")?;
-        }
+    for (s, signal) in (0..chart.signals()).zip(chart.all_signals()) {
+        let name = Named { chart, signal: s };
+        let kind = kind_word(signal.kind);
+        let combining = combining_words(signal.combining);
+        println!(rt; "  {s} {name}: {kind}{combining}")?;
     }
     Ok(())
 }
 
 // The transitions of one state, in the order in which they are tried.
+// An automaton's number and a state stay two parameters: the tree goes by the number, an owner has it as a byte.
 fn print_transitions(
     rt: &HostRuntime,
     chart: Chart,
@@ -35,45 +37,34 @@ fn print_transitions(
     state: u8,
     depth: usize,
 ) -> io::Result<()> {
-    for i in 0..chart.transitions() {
-        if let Some(t) = chart.transition(i) {
-            if usize::from(t.automaton) == k && t.source == state {
-                indent(rt, depth)?;
-                print_transition(rt, chart, &t)?;
-            }
-        }
+    let of_state = chart
+        .all_transitions()
+        .filter(|t| usize::from(t.automaton) == k && t.source == state);
+    for transition in of_state {
+        indent(rt, depth)?;
+        let told = Told { chart, transition };
+        println!(rt; "{told}")?;
     }
     Ok(())
 }
 
 // Whether automaton j stands in a state of automaton k.
 fn stands_in(chart: Chart, j: usize, k: usize, state: u8) -> bool {
-    if let Some(part) = chart.automaton(j) {
-        if let Some(owner) = part.owner {
-            return usize::from(owner.automaton) == k && owner.state == state;
-        }
-    }
-    false
+    let owner = chart.automaton(j).and_then(|part| part.owner);
+    owner.is_some_and(|o| usize::from(o.automaton) == k && o.state == state)
 }
 
-// One state of automaton k: its transitions, and the automata inside it. `end` is the number of automata.
+// One state of automaton k: its transitions, and the automata inside it. An index loop: the numbers grow, so it ends.
 #[cycle(print_automaton_print_state)]
-fn print_state(
-    rt: &HostRuntime,
-    chart: Chart,
-    k: usize,
-    state: u8,
-    end: usize,
-    depth: usize,
-) -> io::Result<()>
-    requires { k < end }
+fn print_state(rt: &HostRuntime, chart: Chart, k: usize, state: u8, depth: usize) -> io::Result<()>
+    requires { k < length (decoded chart).automata }
 {
     indent(rt, depth)?;
     println!(rt; "state {state}")?;
     print_transitions(rt, chart, k, state, depth.saturating_add(1))?;
-    for j in k + 1..end {
+    for j in k + 1..chart.automata() {
         if stands_in(chart, j, k, state) {
-            print_automaton(rt, chart, j, end, depth.saturating_add(1))?;
+            print_automaton(rt, chart, j, depth.saturating_add(1))?;
         }
     }
     Ok(())
@@ -81,34 +72,28 @@ fn print_state(
 
 // Automaton k with its states.
 #[cycle(print_automaton_print_state)]
-fn print_automaton(
-    rt: &HostRuntime,
-    chart: Chart,
-    k: usize,
-    end: usize,
-    depth: usize,
-) -> io::Result<()>
-    requires { k < end }
+fn print_automaton(rt: &HostRuntime, chart: Chart, k: usize, depth: usize) -> io::Result<()>
+    requires { k < length (decoded chart).automata }
 {
     if let Some(automaton) = chart.automaton(k) {
         indent(rt, depth)?;
         let states = automaton.states;
         let first = automaton.first;
         println!(rt; "automaton {k}: {states} states, starts in state {first}")?;
-        for state in 0..automaton.states {
-            print_state(rt, chart, k, state, end, depth.saturating_add(1))?;
+        for state in 0..states {
+            print_state(rt, chart, k, state, depth.saturating_add(1))?;
         }
     }
     Ok(())
 }
 
+// The signals, and the automata at the top. An index loop: the tree goes by numbers below the count, which a pair of iterators does not tell.
 pub fn show(rt: &HostRuntime, chart: Chart) -> io::Result<()> {
     print_signals(rt, chart)?;
     println!(rt; "automata (in each state the first line that holds is taken)")?;
-    let end = chart.automata();
-    for k in 0..end {
+    for k in 0..chart.automata() {
         if let Some(Automaton { owner: None, .. }) = chart.automaton(k) {
-            print_automaton(rt, chart, k, end, 1)?;
+            print_automaton(rt, chart, k, 1)?;
         }
     }
     Ok(())

@@ -3,8 +3,9 @@ use bits::has_bit;
 use chart::signal::{Combining, Kind};
 use chart::transition::Transition;
 use chart::view::Chart;
-use std::io;
+use std::{fmt, str};
 
+// The word of a kind. A function: the words are this program's, and the kind is not.
 pub fn kind_word(kind: Kind) -> &'static str {
     match kind {
         Kind::Input => "input",
@@ -13,6 +14,7 @@ pub fn kind_word(kind: Kind) -> &'static str {
     }
 }
 
+// What is said of a way of combining. A function, as for a kind.
 pub fn combining_words(combining: Combining) -> &'static str {
     match combining {
         Combining::Plain => "",
@@ -21,74 +23,109 @@ pub fn combining_words(combining: Combining) -> &'static str {
     }
 }
 
-// The name of signal s.
-pub fn print_name(rt: &HostRuntime, chart: Chart, s: usize) -> io::Result<()> {
-    for b in chart.name(s).bytes {
-        let letter = *b as char;
-        print!(rt; "{letter}")?;
-    }
-    Ok(())
+// A signal of a chart, by its number; its text is its name.
+#[derive(Clone, Copy)]
+pub struct Named<'a> {
+    pub chart: Chart<'a>,
+    pub signal: usize,
 }
 
-// The names of the signals in a mask, each after a word: the first word, or the one between two names. Answers the word for the next name.
-fn print_names<'w>(
-    rt: &HostRuntime,
-    chart: Chart,
+impl fmt::Display for Named<'_> {
+    fn fmt<W: fmt::Write>(&self, f: &mut fmt::Formatter<W>) -> fmt::Result {
+        let name = self.chart.name(self.signal);
+        f.write_str(str::from_utf8(name.bytes).map_err(|_| fmt::Error)?)
+    }
+}
+
+// The signals of a chart that are in a mask; their text is their names, with words between two of them.
+#[derive(Clone, Copy)]
+struct Names<'a> {
+    chart: Chart<'a>,
     mask: u64,
-    first: &'w str,
-    between: &'w str,
-) -> io::Result<&'w str> {
-    let mut word = first;
-    for s in 0..chart.signals() {
-        if has_bit(mask, s) {
-            print!(rt; "{word}")?;
-            print_name(rt, chart, s)?;
-            word = between;
-        }
-    }
-    Ok(word)
+    between: &'static str,
 }
 
-// When a transition fires: what it needs and what it forbids.
-fn print_guard(rt: &HostRuntime, chart: Chart, t: &Transition) -> io::Result<()> {
-    if t.needed == 0 && t.forbidden == 0 {
-        return print!(rt; "always");
-    }
-    print_names(rt, chart, t.needed, "when ", " and ")?;
-    let first = if t.needed == 0 {
-        "when not "
-    } else {
-        " and not "
-    };
-    print_names(rt, chart, t.forbidden, first, " and not ")?;
-    Ok(())
-}
-
-// Whether an amount matters: one of the signals combines amounts.
-fn has_amount(chart: Chart, mask: u64) -> bool {
-    for s in 0..chart.signals() {
-        if let Some(signal) = chart.signal(s) {
-            if has_bit(mask, s) && !matches!(signal.combining, Combining::Plain) {
-                return true;
+impl fmt::Display for Names<'_> {
+    fn fmt<W: fmt::Write>(&self, f: &mut fmt::Formatter<W>) -> fmt::Result {
+        let chart = self.chart;
+        let mask = self.mask;
+        let signals = (0..chart.signals()).filter(|s| has_bit(mask, *s));
+        for (i, signal) in signals.enumerate() {
+            if i > 0 {
+                f.write_str(self.between)?;
             }
+            let name = Named { chart, signal };
+            write!(f, "{name}")?;
         }
+        Ok(())
     }
-    false
 }
 
-// A transition: when it fires, where it goes, what it emits.
-pub fn print_transition(rt: &HostRuntime, chart: Chart, t: &Transition) -> io::Result<()> {
-    print_guard(rt, chart, t)?;
-    let target = t.target;
-    if target == t.source {
-        print!(rt; ": enter state {target} again")?;
-    } else {
-        print!(rt; ": go to state {target}")?;
+// A transition of a chart in words: when it fires, where it goes, what it emits.
+#[derive(Clone, Copy)]
+pub struct Told<'a> {
+    pub chart: Chart<'a>,
+    pub transition: Transition,
+}
+
+impl<'a> Told<'a> {
+    // The names of the signals in a mask.
+    fn names(&self, mask: u64, between: &'static str) -> Names<'a> {
+        Names {
+            chart: self.chart,
+            mask,
+            between,
+        }
     }
-    print_names(rt, chart, t.emitted, ", emit ", " and ")?;
-    if has_amount(chart, t.emitted) {
-        let amount = t.amount;
-        print!(rt; " with amount {amount}")?;
+
+    // When it fires: what it needs and what it forbids.
+    fn write_guard<W: fmt::Write>(&self, f: &mut fmt::Formatter<W>) -> fmt::Result {
+        let needed = self.names(self.transition.needed, " and ");
+        let forbidden = self.names(self.transition.forbidden, " and not ");
+        match (needed.mask, forbidden.mask) {
+            (0, 0) => write!(f, "always"),
+            (0, _) => write!(f, "when not {forbidden}"),
+            (_, 0) => write!(f, "when {needed}"),
+            (_, _) => write!(f, "when {needed} and not {forbidden}"),
+        }
     }
-    println!(rt; "")
+
+    // Where it goes.
+    fn write_target<W: fmt::Write>(&self, f: &mut fmt::Formatter<W>) -> fmt::Result {
+        let target = self.transition.target;
+        if target == self.transition.source {
+            write!(f, ": enter state {target} again")
+        } else {
+            write!(f, ": go to state {target}")
+        }
+    }
+
+    // Whether its amount matters: one of the signals that it emits combines amounts.
+    fn has_amount(&self) -> bool {
+        let emitted = self.transition.emitted;
+        (0..self.chart.signals()).zip(self.chart.all_signals()).any(|(s, signal)| has_bit(
+            emitted, s,
+        ) && signal.combining != Combining::Plain)
+    }
+
+    // What it emits.
+    fn write_emitted<W: fmt::Write>(&self, f: &mut fmt::Formatter<W>) -> fmt::Result {
+        let emitted = self.names(self.transition.emitted, " and ");
+        if emitted.mask != 0 {
+            write!(f, ", emit {emitted}")?;
+        }
+        if self.has_amount() {
+            let amount = self.transition.amount;
+            write!(f, " with amount {amount}")?;
+        }
+        Ok(())
+    }
+}
+
+impl fmt::Display for Told<'_> {
+    fn fmt<W: fmt::Write>(&self, f: &mut fmt::Formatter<W>) -> fmt::Result {
+        self.write_guard(f)?;
+        self.write_target(f)?;
+        self.write_emitted(f)
+    }
 }

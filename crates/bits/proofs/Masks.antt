@@ -1,22 +1,18 @@
 -- The bits of a mask that is made of a test; words with the same bits are equal. Assumes nothing.
-use Rattle.std.proofs.Common.{◌≡◌, ℕ, zero, suc, ◌/◌, ◌%◌, ◌^◌, ◌<◌, Bool, true, false, cond, ◌&&◌, ◌||◌, eqb, ltb, ◌⊎◌, sym, refl, ap, ◌∙◌, inl, inr, ⊎_elim, pow-suc, arith}
+use Rattle.std.proofs.Common.{◌≡◌, ℕ, zero, suc, ◌^◌, ◌<◌, Bool, true, false, cond, ◌&&◌, ◌||◌, eqb, ltb, ◌⊎◌, sym, refl, ap, ◌∙◌, inl, inr, ⊎_elim, pow-suc, arith}
 use lib.Bits.{bit_or, or_lt}
 use lib.Pow.{pow-lt}
 use Rattle.std.proofs.lemmas.Bool.{and_left, cases_Bool, cases_eq, cond-false, cond-true, le-ltb}
 use Rattle.std.proofs.lemmas.Bool.Decides.{nat_tests}
+use Rattle.std.proofs.lemmas.Nat.Bits.{bit_at-lt, same_from_bits_below}
 use Rattle.bits.specs.Bits.{bit}
 use Rattle.bits.specs.Masks.{mask_of}
-use Rattle.bits.proofs.Digits.{bit_low, bit_of_or, bit_pow, bit_up, bit_zero}
+use Rattle.bits.proofs.Digits.{bit_of_or, bit_pow, bit_zero}
 
 -- words of k digits with the same digits are equal
 pub same_word : (k a b : ℕ) → a < 2 ^ k → b < 2 ^ k → ((j : ℕ) → j < k → bit a j ≡ bit b j) → a ≡ b
-same_word zero a b h l f = omega arith
-same_word (suc k) a b h l f =
-    let p = pow-suc 2 k in
-    let half = same_word k (a / 2) (b / 2) (omega arith) (omega arith) (λ j m. sym (bit_up a j) ∙ f (suc j) (omega arith) ∙ bit_up b j) in
-    let low : eqb (a % 2) 1 ≡ eqb (b % 2) 1 = sym (bit_low a) ∙ f 0 (omega arith) ∙ bit_low b in
-    let digit : a % 2 ≡ b % 2 = grind (arith, nat_tests) in
-    omega (arith, half, digit)
+unfolding bit
+same_word k a b h l f = same_from_bits_below k a b h l (λ j m. let x = bit_at-lt a j in let y = bit_at-lt b j in let e = f j m in grind (arith, nat_tests))
 
 -- the mask has no bit from n on
 pub mask_small : (test : ℕ → Bool) (n : ℕ) → mask_of test n < 2 ^ n

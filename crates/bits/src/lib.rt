@@ -1,8 +1,11 @@
 // Words as sets of bits.
 #![tactic(auto)]
 
-ghost use Rattle.std.specs.Prelude.{◌≡◌, ℕ, not, ◌&&◌, ◌||◌, ◌==◌, nat_lt};
+ghost use Rattle.std.specs.Prelude.{◌≡◌, ℕ, ◌<◌, true, false, MatchOption, not, ◌&&◌, ◌||◌, ◌==◌, nat_lt};
 ghost use Rattle.bits.specs.Bits.{bit};
+
+pub mod set;
+pub mod union;
 
 // Whether bit i is set; a word has 64 bits.
 pub fn has_bit(word: u64, i: usize) -> bool
@@ -32,4 +35,14 @@ pub fn without_bit(word: u64, i: usize) -> u64
         return word;
     }
     word & !(1 << i)
+}
+
+// The place of the lowest bit that is set; none where none is.
+pub fn lowest_bit(word: u64) -> Option<usize>
+    ensures { MatchOption result ((j : ℕ) → bit word j ≡ false) (λ i. (i < 64) × (bit word i ≡ true) × ((j : ℕ) → j < i → bit word j ≡ false)) }
+{
+    if word == 0 {
+        return None;
+    }
+    Some(word.trailing_zeros() as usize)
 }

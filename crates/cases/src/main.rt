@@ -1,73 +1,45 @@
 // cases: performs the first worked cases, and prints the line or the fault of each.
 #![tactic(auto)]
 
-use analysis::reach::{ReachSystem, reach_system};
+use analysis::reach::reach_system;
 use analysis::stateset::StateSet;
-use chart::check::check;
-use chart::view::{Chart, view};
+use chart::view::Chart;
 use engine::cases::{Case, worked_cases};
 use engine::publish::{NextCall, publish};
 use engine::runner::Runner;
 use fixpoint::lowest::LowestFirst;
 use fixpoint::worklist::Worklist;
-use reaction::fault::Fault;
 use status::status::Status;
 use std::io;
 
-// The first bytes of a buffer.
-fn print_bytes(rt: &HostRuntime, buffer: &[u8], length: usize) -> io::Result<()> {
-    for b in buffer.iter().take(length) {
-        let letter = *b as char;
-        print!(rt; "{letter}")?;
-    }
-    Ok(())
-}
-
-// One instant: its line as it stands in the buffer, or its fault.
-fn perform(
-    rt: &HostRuntime,
-    table: &ReachSystem,
-    runner: &mut Runner,
-    mask: u64,
-    area: &mut [Status],
-    line: &mut [u8],
-) -> io::Result<()> {
+// The instant of a case, with as many places and bytes as it says: its line as it stands in the buffer, or its fault.
+fn perform(rt: &HostRuntime, chart: Chart, runner: &mut Runner, case: &Case) -> io::Result<()> {
     let mut cells = [StateSet::empty(); 96];
     let mut sets = [StateSet::empty(); 96];
-    let mut worklist = LowestFirst::new();
+    let mut area = [Status::default(); 64];
+    let mut buffer = [0; 64];
+    let line = &mut buffer[..case.room.min(64)];
     let published = publish(
-        table,
+        &reach_system(chart),
         &mut cells,
         &mut sets,
         runner,
-        NextCall::Instant(mask),
-        &mut worklist,
-        area,
+        NextCall::Instant(case.mask),
+        &mut LowestFirst::new(),
+        &mut area[..case.places.min(64)],
         line,
     );
     match published.answer {
-        Some(Ok(length)) => print_bytes(rt, line, length),
+        Some(Ok(length)) => rt.write_all(&line[..length]),
         Some(Err(fault)) => println!(rt; "{fault}"),
         None => Ok(()),
     }
 }
 
-// A runner on the chart of a case, and its instant with as many places and bytes as the case says.
+// A runner on the chart of a case, and the instant of the case.
 fn run(rt: &HostRuntime, chart: Chart, case: &Case) -> io::Result<()> {
-    let mut area = [Status {
-        present: false,
-        absent: false,
-    }; 64];
-    let mut line = [0; 64];
     let mut runner = Runner::start(chart);
-    let printed = perform(
-        rt,
-        &reach_system(chart),
-        &mut runner,
-        case.mask,
-        &mut area[..case.places.min(64)],
-        &mut line[..case.room.min(64)],
-    );
+    let printed = perform(rt, chart, &mut runner, case);
     runner.close();
     printed
 }
@@ -75,12 +47,9 @@ fn run(rt: &HostRuntime, chart: Chart, case: &Case) -> io::Result<()> {
 fn main(rt: HostRuntime) -> io::Result<()> {
     let cases = worked_cases();
     for case in cases.iter().take(7) {
-        match check(case.file) {
-            Ok(()) => run(&rt, view(case.file), case)?,
-            Err(fault) => {
-                let fault = Fault::Chart(fault);
-                println!(&rt; "{fault}")?;
-            }
+        match Chart::open(case.file) {
+            Ok(chart) => run(&rt, chart, case)?,
+            Err(fault) => println!(&rt; "{fault}")?,
         }
     }
     Ok(())

@@ -1,13 +1,15 @@
 -- The tests of the automata pass exactly if the rules of the layout hold of them. Assumes nothing.
-use Rattle.std.proofs.Common.{◌≡◌, ℕ, zero, suc, ◌+◌, ◌<◌, ◌≤◌, Bool, true, false, cond, ◌&&◌, eqb, ltb, List, map, Some, None, Decides, sum_by, Option, sym, refl, ap, ◌∙◌, subst, ⊎_elim, add-one, arith}
+use Rattle.std.proofs.Common.{◌≡◌, ℕ, zero, suc, ◌+◌, ◌*◌, ◌<◌, ◌≤◌, Bool, true, false, cond, ◌&&◌, eqb, ltb, List, map, take, drop, Some, None, Decides, sum, sum_by, Option, sym, refl, ap, ◌∙◌, subst, ⊎_elim, add-one, arith}
 use Rattle.std.specs.List.{range_with_len}
+use Rattle.std.proofs.lemmas.List.Sums.{sum-map}
 use Rattle.std.proofs.lemmas.List.FromFn.{sum_by-map-range_with_len_more}
 use Rattle.std.proofs.lemmas.Bool.{and_from, and_parts, cases_eq, eq-eqb, eqb-true, le-leb, leb-true, lt-ltb, ltb-true}
 use Rattle.chart.specs.Check.{automaton_good, owner_good, states_upto}
 use Rattle.chart.specs.Decoded.{automaton_at}
 use Rattle.chart.specs.Layout.{AutomatonRule}
-use Rattle.chart.specs.Places.{automata_at, automaton_place, byte}
+use Rattle.chart.specs.Places.{automata_at, automaton_place, byte, records_from}
 use Rattle.chart.specs.declared.automaton.Owner.{Owner}
+use Rattle.chart.proofs.RecordBytes.{in_record}
 
 -- ---- all states together
 
@@ -15,14 +17,22 @@ use Rattle.chart.specs.declared.automaton.Owner.{Owner}
 abbrev total : List ℕ → ℕ → ℕ
 total bs n = sum_by (λ a. a.states) (map (automaton_at bs) (range_with_len 0 n))
 
--- the walk adds up the same
-upto_total : (bs : List ℕ) (n : ℕ) → states_upto bs (automata_at bs + 1) n ≡ total bs n
+-- the walk adds up the same, whatever list has those numbers
+upto_by : {X : Type 0} (g : X → ℕ) (f : ℕ → X) (bs : List ℕ) (p n : ℕ) → ((k : ℕ) → byte bs (p + 4 * k + 2) ≡ g (f k)) → states_upto bs p n ≡ sum_by g (map f (range_with_len 0 n))
 unfolding states_upto
-upto_total bs zero = refl
-upto_total bs (suc n) =
-    ap (λ m. m + (automaton_at bs n).states) (upto_total bs n)
-    ∙ sym (sum_by-map-range_with_len_more (λ a. a.states) (automaton_at bs) 0 n n (omega arith))
-    ∙ ap (total bs) (add-one n)
+upto_by g f bs p zero same = refl
+upto_by g f bs p (suc n) same =
+    (λ i. upto_by g f bs p n same i + same n i)
+    ∙ sym (sum_by-map-range_with_len_more g f 0 n n (omega arith))
+    ∙ ap (λ m. sum_by g (map f (range_with_len 0 m))) (add-one n)
+
+pub upto_sum : (bs : List ℕ) (p n : ℕ) → states_upto bs p n ≡ sum (map (λ a. byte a 2) (records_from bs 4 p n))
+upto_sum bs p n =
+    upto_by (λ a. byte a 2) (λ k. take 4 (drop (p + 4 * k) bs)) bs p n (λ k. sym (in_record bs (p + 4 * k) 4 2 (p + 4 * k + 2) (omega arith) refl))
+    ∙ sym (sum-map (λ a. byte a 2) (records_from bs 4 p n))
+
+upto_total : (bs : List ℕ) (n : ℕ) → states_upto bs (automata_at bs + 1) n ≡ total bs n
+upto_total bs n = upto_by (λ a. a.states) (automaton_at bs) bs (automata_at bs + 1) n (λ k. refl)
 
 -- more automata have no fewer states
 upto_grows : (bs : List ℕ) (p k n : ℕ) → k ≤ n → states_upto bs p k ≤ states_upto bs p n

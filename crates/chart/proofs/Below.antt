@@ -1,7 +1,10 @@
 -- What `all_below` tells. Assumes nothing.
-use Rattle.std.proofs.Common.{◌≡◌, ℕ, zero, suc, ◌+◌, ◌<◌, Bool, true, false, Decides, sym, refl, ap, ◌∙◌, ⊎_elim, add-one, arith}
-use Rattle.std.proofs.lemmas.Bool.{and_from, and_left, and_right, cases_eq}
-use Rattle.std.proofs.lemmas.Bool.Decides.{Decides-below_and}
+use Rattle.std.proofs.Common.{◌≡◌, ℕ, zero, suc, ◌+◌, ◌<◌, Bool, true, ◌&&◌, [], ◌∷◌, map, Decides, sym, refl, ap, ◌∙◌, arith}
+use Rattle.std.proofs.Math.Bool.{and_comm, and-true}
+use Rattle.std.specs.List.{enumerate_from, list_all, range_with_len}
+use Rattle.std.proofs.lemmas.List.Folds.{list_all-append}
+use Rattle.std.proofs.lemmas.List.FromFn.{map-range_with_len_more}
+use Rattle.std.proofs.lemmas.Bool.Decides.{Decides-below_and, same_from_decides}
 use Rattle.chart.specs.Check.{all_below}
 
 -- where a test decides a fact, all_below decides that it holds of each number below n
@@ -17,23 +20,27 @@ all_below_true p n = (all_below_decides p (λ k. p k ≡ true) (λ k. (λ e. e, 
 pub all_below_from : (p : ℕ → Bool) (n : ℕ) → ((k : ℕ) → k < n → p k ≡ true) → all_below p n ≡ true
 all_below_from p n = (all_below_decides p (λ k. p k ≡ true) (λ k. (λ e. e, λ e. e)) n).1
 
--- nothing is to pass
-pub all_below_none : (p : ℕ → Bool) → all_below p 0 ≡ true
-unfolding all_below
-all_below_none p = refl
+-- a result that says whether each number below n passes is all_below
+pub all_below_is : (p : ℕ → Bool) (n : ℕ) (r : Bool) → Decides r ((k : ℕ) → k < n → p k ≡ true) → r ≡ all_below p n
+all_below_is p n r d = same_from_decides r (all_below p n) d (all_below_decides p (λ k. p k ≡ true) (λ k. (λ e. e, λ e. e)) n)
 
--- one number more passes
-pub all_below_more : (p : ℕ → Bool) (n : ℕ) → all_below p n ≡ true → p n ≡ true → all_below p (n + 1) ≡ true
-unfolding all_below
-all_below_more p n h k = ap (all_below p) (add-one n) ∙ and_from (p n) (all_below p n) k h
+-- tests that agree below n
+pub all_below_same : (p q : ℕ → Bool) (n : ℕ) → ((k : ℕ) → k < n → p k ≡ q k) → all_below p n ≡ all_below q n
+all_below_same p q n same = all_below_is q n (all_below p n) (λ e k l. sym (same k l) ∙ all_below_true p n e k l, λ f. all_below_from p n (λ k l. same k l ∙ f k l))
 
--- one number does not
-pub all_below_false : (p : ℕ → Bool) (k n : ℕ) → k < n → p k ≡ false → all_below p n ≡ false
+-- the test of each element of a list that is made from the numbers below n
+pub made_passes : {X : Type 0} (q : X → Bool) (f : ℕ → X) (n : ℕ) → list_all q (map f (range_with_len 0 n)) ≡ all_below (λ k. q (f k)) n
 unfolding all_below
-all_below_false p k zero l h = absurd (omega arith)
-all_below_false p k (suc n) l h =
-    let more : k < n → all_below p n ≡ false = λ m. all_below_false p k n m h in
-    ⊎_elim
-    (λ (e : k ≡ n). and_left (p n) (all_below p n) (ap p (sym e) ∙ h))
-    (λ (d : k ≡ n → ⊥). and_right (p n) (all_below p n) (more (omega arith)))
-    (cases_eq k n)
+made_passes q f zero = refl
+made_passes q f (suc n) =
+    let next : suc n ≡ n + 1 = omega arith in
+    ap (λ m. list_all q (map f (range_with_len 0 m))) next
+    ∙ ap (list_all q) (map-range_with_len_more f 0 n n (omega arith))
+    ∙ list_all-append q (map f (range_with_len 0 n)) (f n ∷ [])
+    ∙ and_comm (list_all q (map f (range_with_len 0 n))) (q (f n) && true)
+    ∙ (λ i. and-true (q (f n)) i && made_passes q f n i)
+
+-- such a list with its numbers
+pub numbered : {X : Type 0} (f : ℕ → X) (a n : ℕ) → enumerate_from a (map f (range_with_len a n)) ≡ map (λ k. (k, f k)) (range_with_len a n)
+numbered f a zero = refl
+numbered f a (suc n) = ap (λ xs. (a, f a) ∷ xs) (numbered f (a + 1) n)

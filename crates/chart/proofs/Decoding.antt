@@ -1,17 +1,23 @@
 -- The lists of a decoded chart, element by element, and how long they can be. Assumes nothing.
-use Rattle.std.proofs.Common.{◌≡◌, ℕ, zero, suc, ◌+◌, ◌-◌, ◌<◌, ◌≤◌, ltb, List, [], ◌∷◌, map, length, get_or, take, drop, Some, None, Option, unwrap_or, sym, refl, ap, ◌∙◌, arith}
+use Rattle.std.proofs.Common.{◌≡◌, ℕ, zero, suc, ◌+◌, ◌-◌, ◌<◌, ◌≤◌, ltb, cond, not, eqb, List, [], ◌∷◌, map, length, get_or, take, drop, Some, None, Option, refl, sym, ap, ◌∙◌, arith, rules, ⊎_elim}
 use mathlib.Core.Logic.{∥∥₁_elim}
+use Rattle.std.specs.Prelude.{unwrap_or}
 use native.Mathlib.Bridge.{le_prop}
 use Rattle.std.specs.List.{range_with_len, slice_get}
 use Rattle.std.specs.Option.{option_map}
 use Rattle.std.proofs.lemmas.List.FromFn.{length-map-range_with_len, get_or-map-range_with_len}
 use Rattle.std.proofs.lemmas.List.{get_or_past, length-drop, length-take-le, take-take}
-use Rattle.std.proofs.lemmas.Option.{slice_get-get_or, slice_get_past}
-use Rattle.std.proofs.lemmas.Bool.{cond-true, cond-false, le-ltb, lt-ltb}
-use Rattle.chart.specs.Decoded.{decode, signal_at, name_at, name_length, automaton_at, transition, transition_at, no_transition}
+use Rattle.std.proofs.lemmas.List.Sums.{prefix_len-le-length}
+use Rattle.std.proofs.Math.ListN.{drop_of_length-le}
+use Rattle.std.proofs.Math.Seq.{drop-cons}
+use Rattle.std.proofs.lemmas.Option.{get_or_from_slice_get, slice_get-get_or, slice_get_cases, slice_get_past, slice_get_within}
+use Rattle.std.proofs.lemmas.Bool.{cases_lt, cond-true, cond-false, le-ltb, lt-ltb}
+use Rattle.chart.specs.Decoded.{decode, signal_at, signal_of, name_at, name_field, name_length, automaton_at, automaton_of, transition, transition_at, transition_of, no_transition}
+pub use Rattle.chart.specs.Few.{automata_long, few_automata, few_signals, few_transitions, names_long, signals_long, transitions_long}
 use Rattle.chart.specs.Layout.{Layout}
-use Rattle.chart.specs.Places.{signal_count, signal_place, automaton_count, transition_count}
+use Rattle.chart.specs.Places.{signal_count, signal_place, automata_at, automaton_count, automaton_place, transition_count, transition_place, transitions_at, record_of}
 use Rattle.chart.specs.View.{NamedAt}
+use Rattle.chart.proofs.RecordBytes.{automaton_is, signal_is, transition_from}
 use Rattle.chart.specs.declared.automaton.Automaton.{Automaton}
 use Rattle.chart.specs.declared.transition.Transition.{Transition}
 
@@ -24,32 +30,7 @@ nth_made f n i l =
 nth_beyond : {X : Type 0} (f : ℕ → X) (n i : ℕ) → n ≤ i → slice_get (map f (range_with_len 0 n)) i ≡ None
 nth_beyond f n i l = let long = length-map-range_with_len f 0 n in slice_get_past (map f (range_with_len 0 n)) i (omega arith)
 
--- the lists are as long as their counts say
-pub signals_long : (bs : List ℕ) → length (decode bs).signals ≡ signal_count bs
-unfolding decode
-signals_long bs = length-map-range_with_len (signal_at bs) 0 (signal_count bs)
-
-pub names_long : (bs : List ℕ) → length (decode bs).names ≡ signal_count bs
-unfolding decode
-names_long bs = length-map-range_with_len (name_at bs) 0 (signal_count bs)
-
-pub automata_long : (bs : List ℕ) → length (decode bs).automata ≡ automaton_count bs
-unfolding decode
-automata_long bs = length-map-range_with_len (automaton_at bs) 0 (automaton_count bs)
-
-pub transitions_long : (bs : List ℕ) → length (decode bs).transitions ≡ transition_count bs
-unfolding decode
-transitions_long bs = length-map-range_with_len (transition_at bs) 0 (transition_count bs)
-
--- and hold what the bytes say
-pub signal_some : (bs : List ℕ) (i : ℕ) → i < signal_count bs → slice_get (decode bs).signals i ≡ Some (signal_at bs i)
-unfolding decode
-signal_some bs i = nth_made (signal_at bs) (signal_count bs) i
-
-pub signal_none : (bs : List ℕ) (i : ℕ) → signal_count bs ≤ i → slice_get (decode bs).signals i ≡ None
-unfolding decode
-signal_none bs i = nth_beyond (signal_at bs) (signal_count bs) i
-
+-- the lists hold what the bytes say
 pub name_is : (bs : List ℕ) (i : ℕ) → i < signal_count bs → get_or (decode bs).names i [] ≡ name_at bs i
 unfolding decode
 name_is bs i l = get_or-map-range_with_len (name_at bs) 0 (signal_count bs) i i [] l (omega arith)
@@ -61,17 +42,25 @@ pub automaton_some : (bs : List ℕ) (k : ℕ) → k < automaton_count bs → sl
 unfolding decode
 automaton_some bs k = nth_made (automaton_at bs) (automaton_count bs) k
 
-pub automaton_none : (bs : List ℕ) (k : ℕ) → automaton_count bs ≤ k → slice_get (decode bs).automata k ≡ None
-unfolding decode
-automaton_none bs k = nth_beyond (automaton_at bs) (automaton_count bs) k
+-- element i of such a list, by the record that it is made of
+made_of : {X : Type 0} (f : ℕ → X) (g : List ℕ → X) (n i : ℕ) (r : List ℕ) → g r ≡ f i → slice_get (map f (range_with_len 0 n)) i ≡ option_map g (cond (ltb i n) (Some r) None)
+made_of f g n i r e = ⊎_elim
+    (λ (l : i < n). nth_made f n i l ∙ ap Some (sym e) ∙ ap (option_map g) (sym (cond-true (ltb i n) (Some r) None (lt-ltb i n l))))
+    (λ (l : n ≤ i). nth_beyond f n i l ∙ ap (option_map g) (sym (cond-false (ltb i n) (Some r) None (le-ltb i n l))))
+    (cases_lt i n)
 
-pub transition_some : (bs : List ℕ) (i : ℕ) → i < transition_count bs → slice_get (decode bs).transitions i ≡ Some (transition_at bs i)
+-- the signals, automata and transitions, each by its record
+pub signal_listed : (bs : List ℕ) (i : ℕ) → slice_get (decode bs).signals i ≡ option_map signal_of (record_of bs 0 10 i)
 unfolding decode
-transition_some bs i = nth_made (transition_at bs) (transition_count bs) i
+signal_listed bs i = made_of (signal_at bs) signal_of (signal_count bs) i (take 10 (drop (signal_place i) bs)) (signal_is bs i)
 
-pub transition_none : (bs : List ℕ) (i : ℕ) → transition_count bs ≤ i → slice_get (decode bs).transitions i ≡ None
+pub automaton_listed : (bs : List ℕ) (k : ℕ) → slice_get (decode bs).automata k ≡ option_map automaton_of (record_of bs (automata_at bs) 4 k)
 unfolding decode
-transition_none bs i = nth_beyond (transition_at bs) (transition_count bs) i
+automaton_listed bs k = made_of (automaton_at bs) automaton_of (automaton_count bs) k (take 4 (drop (automaton_place bs k) bs)) (automaton_is bs k)
+
+pub transition_listed : (bs : List ℕ) (i : ℕ) → slice_get (decode bs).transitions i ≡ option_map transition_of (record_of bs (transitions_at bs) 31 i)
+unfolding decode
+transition_listed bs i = made_of (transition_at bs) transition_of (transition_count bs) i (take 31 (drop (transition_place bs i) bs)) (transition_from bs (transition_place bs i))
 
 -- the file's empty end
 pub named_beyond : (bs : List ℕ) (i : ℕ) → signal_count bs ≤ i → NamedAt bs i (take (length bs - length bs) (drop (length bs) bs)) (length bs)
@@ -85,32 +74,19 @@ named_beyond bs i l =
     }
 
 -- the name of a signal, in the file
-pub named_within : (bs : List ℕ) (i at n : ℕ) → i < signal_count bs → at ≡ signal_place i → at + 10 ≤ length bs
-    → n ≡ name_length (take 8 (drop (at + 2) bs)) → n ≤ 8 → NamedAt bs i (take (at + 2 + n - (at + 2)) (drop (at + 2) bs)) (at + 2)
-named_within bs i at n l e fits h few =
+pub named_within : (bs : List ℕ) (i n : ℕ) → i < signal_count bs → signal_place i + 10 ≤ length bs
+    → n ≡ name_length (name_field bs i) → NamedAt bs i (take n (drop (signal_place i + 2) bs)) (signal_place i + 2)
+named_within bs i n l fits h =
     let long = names_long bs in
-    let rest = drop (at + 2) bs in
-    let name : take (at + 2 + n - (at + 2)) rest ≡ take n rest = ap (λ m. take m rest) (omega arith) in
-    let short : length (take n rest) ≡ n = length-take-le n rest (simp length-drop (omega arith)) in
-    let field : name_at bs i ≡ take (name_length (take 8 rest)) (take 8 rest) = ap (λ p. let f = take 8 (drop (p + 2) bs) in take (name_length f) f) (sym e) in
-    let whole : take n rest ≡ name_at bs i = sym (take-take n 8 rest few) ∙ ap (λ m. take m (take 8 rest)) h ∙ sym field in
+    let rest = drop (signal_place i + 2) bs in
+    let room : 8 ≤ length rest = simp length-drop (omega arith) in
+    let few : n ≤ 8 = omega (arith, prefix_len-le-length (λ b. not (eqb b 0)) (name_field bs i), length-take-le 8 rest room) in
+    let whole : take n rest ≡ name_at bs i = sym (take-take n 8 rest few) ∙ ap (λ m. take m (take 8 rest)) h in
     record {
-      is = name ∙ whole ∙ sym (name_is bs i l);
-      stands = ap (λ p. p + 2) e ∙ sym (cond-true (ltb i (length (decode bs).names)) (signal_place i + 2) (length bs) (lt-ltb i (length (decode bs).names) (omega arith)));
-      part = name ∙ ap (λ m. take m rest) (sym short) ∙ ap (λ ys. take (length ys) rest) (sym name);
+      is = whole ∙ sym (name_is bs i l);
+      stands = sym (cond-true (ltb i (length (decode bs).names)) (signal_place i + 2) (length bs) (lt-ltb i (length (decode bs).names) (omega arith)));
+      part = ap (λ m. take m rest) (sym (length-take-le n rest (omega arith)));
     }
-
--- a chart has at most 64 signals
-pub few_signals : (bs : List ℕ) → ∥ Layout bs ∥₁ → length (decode bs).signals ≤ 64
-few_signals bs t = ∥∥₁_elim t le_prop (λ h. let few = h.few_signals in omega (arith, signals_long bs))
-
--- a chart has at most 32 automata
-pub few_automata : (bs : List ℕ) → ∥ Layout bs ∥₁ → length (decode bs).automata ≤ 32
-few_automata bs t = ∥∥₁_elim t le_prop (λ h. let few = h.few_automata in omega (arith, automata_long bs))
-
--- a chart has at most 128 transitions
-pub few_transitions : (bs : List ℕ) → ∥ Layout bs ∥₁ → length (decode bs).transitions ≤ 128
-few_transitions bs t = ∥∥₁_elim t le_prop (λ h. let few = h.few_transitions in omega (arith, transitions_long bs))
 
 -- the first state of each automaton is below 32
 pub first_small : (bs : List ℕ) → ∥ Layout bs ∥₁ → (k : ℕ) (d : Automaton) → k < length (decode bs).automata → (get_or (decode bs).automata k d).first < 32
@@ -138,12 +114,21 @@ target_small bs t i l = ∥∥₁_elim t le_prop (λ h.
     let is = get_or-map-range_with_len (transition_at bs) 0 (transition_count bs) i i no_transition inside (omega arith) in
     omega (arith, ap (λ a. a.target) is, rule.target, (h.automata (transition_at bs i).automaton rule.automaton).few))
 
--- a field of transition k, 0 beyond the last
+-- what is left of a list from i on: element i and the rest, or nothing
+pub left_from : {X : Type 0} (xs : List X) (i : ℕ) (x : X) → slice_get xs i ≡ Some x → drop i xs ≡ x ∷ drop (i + 1) xs
+left_from xs i x h =
+    let next : suc i ≡ i + 1 = omega arith in
+    drop-cons xs i x (slice_get_within xs i x h) ∙ ap (λ k. get_or xs i x ∷ drop k xs) next ∙ ap (λ y. y ∷ drop (i + 1) xs) (get_or_from_slice_get xs i x x h)
+
+pub none_left : {X : Type 0} (xs : List X) (i : ℕ) → slice_get xs i ≡ None → drop i xs ≡ []
+none_left xs i h = ⊎_elim (λ p. search (rules, p, h)) (λ p. drop_of_length-le xs {i = i} p.0) (slice_get_cases xs i).1
+
+-- a field of transition k, 0 beyond the last (docs/PORT.md names both)
 field_read : (f : Transition → ℕ) → f no_transition ≡ 0 → (ts : List Transition) (k : ℕ) → unwrap_or (option_map f (slice_get ts k)) 0 ≡ f (get_or ts k no_transition)
 field_read f z [] k = sym z
 field_read f z (t ∷ ts) zero = refl
 field_read f z (t ∷ ts) (suc k) = field_read f z ts k
 
--- the same, of what an accessor and `unwrap_or` gave
+-- the same, of what an option and `unwrap_or` gave
 pub read_field : (f : Transition → ℕ) → f no_transition ≡ 0 → (ts : List Transition) (k : ℕ) {o : Option ℕ} {r : ℕ} → o ≡ option_map f (slice_get ts k) → r ≡ unwrap_or o 0 → r ≡ f (get_or ts k no_transition)
 read_field f z ts k h l = l ∙ ap (λ o. unwrap_or o 0) h ∙ field_read f z ts k

@@ -1,7 +1,9 @@
 pub mod Accepts
 pub mod AutomatonRules
 pub mod Below
+pub mod Chains
 pub mod Decoding
+pub mod RecordBytes
 pub mod Sections
 pub mod SignalRules
 pub mod TransitionRules

@@ -1,9 +1,9 @@
 -- The test of a signal against its rules: the bytes of a name, the rules of one signal, and those of all signals. Assumes nothing.
-use Rattle.std.proofs.Common.{◌≡◌, ℕ, zero, suc, ◌+◌, ◌-◌, ◌<◌, ◌≤◌, true, false, cond, not, ◌||◌, eqb, leb, List, length, get_or, take, drop, Decides, sym, refl, ap, ◌∙◌, subst, ⊎_elim, arith}
+use Rattle.std.proofs.Common.{◌≡◌, ℕ, zero, suc, ◌+◌, ◌-◌, ◌<◌, ◌≤◌, Bool, true, false, cond, not, ◌||◌, eqb, leb, List, length, get_or, take, drop, Decides, sym, refl, ap, ◌∙◌, subst, ⊎_elim, arith}
 use Rattle.std.proofs.lemmas.List.{at_drop_more, ext_get_or, get_or-drop, get_or-take, length-drop, length-take, length-take-le}
 use Rattle.std.proofs.lemmas.List.Sums.{prefix_len-le-length}
 use Rattle.std.proofs.lemmas.Bool.{and_from, and_parts, cases_Bool, cases_eq, cases_lt, eq-eqb, eqb-true}
-use Rattle.std.proofs.lemmas.Bool.Decides.{Decides-and, Decides-eqb, Decides-like, Decides-not, nat_tests}
+use Rattle.std.proofs.lemmas.Bool.Decides.{Decides-and, Decides-eqb, Decides-like, Decides-not, nat_tests, same_from_decides}
 use Rattle.chart.specs.Check.{is_letter, same_eight, signal_good, tidy, unused_name, zeros}
 use Rattle.chart.specs.Codes.{combining_byte, combining_of, kind_byte, kind_of}
 use Rattle.chart.specs.Decoded.{name_at, name_field, name_length}
@@ -12,6 +12,7 @@ use Rattle.chart.specs.Places.{byte, signal_place}
 use Rattle.chart.specs.declared.signal.Combining.TheVariants.{Plain}
 use Rattle.chart.specs.declared.signal.Kind.TheVariants.{Input}
 use Rattle.chart.proofs.Below.{all_below_decides}
+use Rattle.chart.proofs.RecordBytes.{in_record}
 
 -- ---- the bytes of a name
 
@@ -205,12 +206,25 @@ unused_decides bs i = all_below_decides
     (λ j. Decides-not _ (same_decides bs (signal_place j + 2) (signal_place i + 2)))
     i
 
+-- the same eight bytes are the same list
+eight_alike : (bs : List ℕ) (p q : ℕ) → p + 8 ≤ length bs → q + 8 ≤ length bs → ((k : ℕ) → k < 8 → byte bs (p + k) ≡ byte bs (q + k)) → take 8 (drop p bs) ≡ take 8 (drop q bs)
+eight_alike bs p q h l a =
+    let whole : (r : ℕ) → r + 8 ≤ length bs → length (take 8 (drop r bs)) ≡ 8 = λ r m. simp (length-take, length-drop) (omega arith) in
+    ext_get_or 0 (take 8 (drop p bs)) (take 8 (drop q bs)) (whole p h ∙ sym (whole q l))
+    (λ k m. let few : k < 8 = omega (arith, whole p h) in in_record bs p 8 k (p + k) few refl ∙ a k few ∙ sym (in_record bs q 8 k (q + k) few refl))
+
+-- the comparison of the eight bytes from two places on
+pub same_is : (bs : List ℕ) (p q : ℕ) (r : Bool) → p + 8 ≤ length bs → q + 8 ≤ length bs → Decides r (take 8 (drop p bs) ≡ take 8 (drop q bs)) → r ≡ same_eight bs p q
+same_is bs p q r h l d = same_from_decides r (same_eight bs p q)
+    (Decides-like r
+    (λ e k m. sym (in_record bs p 8 k (p + k) m refl) ∙ ap (λ xs. byte xs k) e ∙ in_record bs q 8 k (q + k) m refl)
+    (eight_alike bs p q h l)
+    d)
+    (same_decides bs p q)
+
 -- the same eight bytes are the same name
 same_from_alike : (bs : List ℕ) (i j : ℕ) → signal_place i + 10 ≤ length bs → signal_place j + 10 ≤ length bs → Alike bs i j → name_at bs i ≡ name_at bs j
-same_from_alike bs i j h l a =
-    let at : (k : ℕ) → k < 8 → get_or (name_field bs i) k 0 ≡ get_or (name_field bs j) k 0 = λ k m. field_at bs i h k m ∙ a k m ∙ sym (field_at bs j l k m) in
-    let long : length (name_field bs i) ≡ length (name_field bs j) = length_field bs i h ∙ sym (length_field bs j l) in
-    ap (λ xs. take (name_length xs) xs) (ext_get_or 0 (name_field bs i) (name_field bs j) long (λ k m. at k (omega (arith, length_field bs i h))))
+same_from_alike bs i j h l a = ap (λ xs. take (name_length xs) xs) (eight_alike bs (signal_place i + 2) (signal_place j + 2) (omega arith) (omega arith) a)
 
 -- the same name is the same eight bytes, where both signals keep their rules
 alike_from_same : (bs : List ℕ) (i j : ℕ) → signal_place i + 10 ≤ length bs → signal_place j + 10 ≤ length bs → SignalRule bs i → SignalRule bs j → name_at bs i ≡ name_at bs j → Alike bs i j

@@ -1,64 +1,50 @@
 -- The steps of the walk over a file. Assumes nothing.
-use Rattle.std.proofs.Common.{◌≡◌, ℕ, zero, suc, ◌+◌, ◌-◌, ◌*◌, ◌<◌, ◌≤◌, Bool, true, false, cond, ◌&&◌, ltb, leb, ◌⊎◌, List, length, Ok, Err, refl, ap, inl, inr, add-one, arith}
+use Rattle.std.proofs.Common.{◌≡◌, ℕ, zero, suc, ◌+◌, ◌-◌, ◌*◌, ◌<◌, ◌≤◌, Bool, true, false, ◌&&◌, eqb, List, length, take, drop, Ok, Err, sym, refl, ap, ◌∙◌, ⊎_elim, add-one, arith}
+use Rattle.std.specs.List.{list_all}
+use Rattle.std.proofs.lemmas.List.{at_drop_more}
 use mathlib.Core.Bool.{and_assoc}
-use Rattle.std.proofs.lemmas.Bool.{and_parts, lt-ltb, le-ltb, leb-true, ne_eqb, false≢true}
-use Rattle.chart.specs.Check.{automaton_good, is_letter, owner_good, records, states_upto, tidy, zeros}
+use Rattle.std.proofs.lemmas.Bool.{cases_Bool, lt-ltb, le-ltb}
+use Rattle.chart.specs.Check.{is_letter, records, states_upto, tidy, zeros}
+use Rattle.chart.specs.Decoded.{name_length}
 use Rattle.chart.specs.Places.{byte}
 use Rattle.chart.specs.declared.fault.ChartFault.{ChartFault}
 use Rattle.chart.specs.declared.fault.ChartFault.TheVariants.{EndsEarly}
 
--- what is left of a name: after the first zero byte, zero bytes alone
-abbrev pub rest_of_name : Bool → List ℕ → ℕ → ℕ → Bool
-rest_of_name ended bs n p = cond ended (zeros bs n p) (tidy bs n p)
+-- the part of a file that `bytes[p..p + 8]` is
+pub eight_bytes : (bs : List ℕ) (p : ℕ) → take (p + 8 - p) (drop p bs) ≡ take 8 (drop p bs)
+eight_bytes bs p = let eight : p + 8 - p ≡ 8 = omega arith in ap (λ n. take n (drop p bs)) eight
 
--- no byte is left
-pub name_ends : (ended : Bool) (bs : List ℕ) (n p : ℕ) → n ≡ 0 → rest_of_name ended bs n p ≡ true
-unfolding tidy zeros
-name_ends true bs zero p e = refl
-name_ends false bs zero p e = refl
-name_ends ended bs (suc n) p e = absurd (omega arith)
+-- zero bytes, as a list
+zeros_by : (bs : List ℕ) (n p : ℕ) → p + n ≤ length bs → zeros bs n p ≡ list_all (λ b. eqb b 0) (take n (drop p bs))
+unfolding zeros
+zeros_by bs zero p l = refl
+zeros_by bs (suc n) p l =
+    ap (λ z. eqb (byte bs p) 0 && z) (zeros_by bs n (p + 1) (omega arith))
+    ∙ sym (at_drop_more (λ xs. list_all (λ b. eqb b 0) (take (suc n) xs)) bs p 0 (omega arith))
 
--- a zero byte
-pub name_zero : (ended : Bool) (bs : List ℕ) (n p : ℕ) → 0 < n → byte bs p ≡ 0 → rest_of_name ended bs n p ≡ rest_of_name true bs (n - 1) (p + 1)
-unfolding tidy zeros
-name_zero ended bs zero p l z = absurd (omega arith)
-name_zero true bs (suc n) p l z = let e : suc n - 1 ≡ n = omega arith in rw (e, z)
-name_zero false bs (suc n) p l z = let e : suc n - 1 ≡ n = omega arith in rw (e, z)
+-- letters and digits before the first zero byte, and zero bytes from it on
+abbrev pub parted : List ℕ → Bool
+parted xs = list_all is_letter (take (name_length xs) xs) && list_all (λ b. eqb b 0) (drop (name_length xs) xs)
 
--- a letter before the first zero byte
-pub name_letter : (bs : List ℕ) (n p : ℕ) → 0 < n → (byte bs p ≡ 0 → ⊥) → is_letter (byte bs p) ≡ true → rest_of_name false bs n p ≡ rest_of_name false bs (n - 1) (p + 1)
+-- the test of a name, by its two parts
+pub tidy_by : (bs : List ℕ) (n p : ℕ) → p + n ≤ length bs → tidy bs n p ≡ parted (take n (drop p bs))
 unfolding tidy
-name_letter bs zero p l d h = absurd (omega arith)
-name_letter bs (suc n) p l d h = let e : suc n - 1 ≡ n = omega arith in rw (e, ne_eqb (byte bs p) 0 d, h)
-
--- any other byte
-pub name_broken : (ended : Bool) (bs : List ℕ) (n p : ℕ) → 0 < n → (byte bs p ≡ 0 → ⊥) → (ended ≡ true) ⊎ (is_letter (byte bs p) ≡ false) → rest_of_name ended bs n p ≡ false
-unfolding tidy zeros
-name_broken ended bs zero p l d h = absurd (omega arith)
-name_broken true bs (suc n) p l d h = rw (ne_eqb (byte bs p) 0 d)
-name_broken false bs (suc n) p l d (inl h) = absurd (false≢true h)
-name_broken false bs (suc n) p l d (inr h) = rw (ne_eqb (byte bs p) 0 d, h)
-
--- five tests in one row
-pub regroup : (a b c d e : Bool) → (a && b && c && d && e) ≡ (a && ((b && c) && (d && e)))
-regroup true b c d e = and_assoc (b && c) d e
-regroup false b c d e = refl
+tidy_by bs zero p l = refl
+tidy_by bs (suc n) p l =
+    let first = at_drop_more (λ xs. parted (take (suc n) xs)) bs p 0 (omega arith) in
+    let ys = take n (drop (p + 1) bs) in
+    let one : 1 + name_length ys ≡ suc (name_length ys) = omega arith in
+    ⊎_elim
+    (λ (z : eqb (byte bs p) 0 ≡ true). rw (first, z) (zeros_by bs n (p + 1) (omega arith) ∙ ap (λ b. b && list_all (λ x. eqb x 0) (take n (drop (p + 1) bs))) (sym z)))
+    (λ (z : eqb (byte bs p) 0 ≡ false). rw (first, z, one)
+    (ap (λ t. is_letter (byte bs p) && t) (tidy_by bs n (p + 1) (omega arith))
+    ∙ sym (and_assoc (is_letter (byte bs p)) (list_all is_letter (take (name_length ys) ys)) (list_all (λ b. eqb b 0) (drop (name_length ys) ys)))))
+    (cases_Bool (eqb (byte bs p) 0))
 
 -- one automaton more
 pub states_more : (bs : List ℕ) (p k : ℕ) → states_upto bs p (k + 1) ≡ states_upto bs p k + byte bs (p + 4 * k + 2)
 unfolding states_upto
 states_more bs p k = ap (states_upto bs p) (add-one k)
-
-pub states_none : (bs : List ℕ) (p : ℕ) → states_upto bs p 0 ≡ 0
-unfolding states_upto
-states_none bs p = refl
-
--- an automaton that keeps its rules leaves at most 64 states together
-pub states_few : (bs : List ℕ) (p k : ℕ) → automaton_good bs p k ≡ true → states_upto bs p (k + 1) ≤ 64
-states_few bs p k h =
-    let tests = (and_parts (owner_good bs p k) _ h).1 in
-    let last = (and_parts (ltb (byte bs (p + 4 * k + 3)) (byte bs (p + 4 * k + 2))) _ (and_parts (leb 1 (byte bs (p + 4 * k + 2)) && leb (byte bs (p + 4 * k + 2)) 32) _ tests).1).1 in
-    leb-true (states_upto bs p (k + 1)) 64 last
 
 module _ (size : ℕ) (good : ℕ → Bool) (fault : ℕ → ChartFault) (bs : List ℕ) (p n i : ℕ) where
   -- no record is left

@@ -1,5 +1,5 @@
 -- The walk over a chart file in order, to its first fault. Assumes nothing.
-use Rattle.std.specs.Prelude.{ℕ, zero, suc, ◌+◌, ◌*◌, ◌^◌, Bool, true, cond, not, ◌&&◌, ◌||◌, List, length, Ok, Err, Result, ◌==◌, bit_and, nat_eq, nat_le, nat_lt}
+use Rattle.std.specs.Prelude.{◌≡◌, ℕ, zero, suc, ◌+◌, ◌*◌, ◌^◌, Bool, true, cond, not, ◌&&◌, ◌||◌, List, length, Ok, Err, Result, ◌==◌, bit_and, nat_eq, nat_le, nat_lt}
 use Rattle.bits.specs.Bits.{bit}
 use Rattle.chart.specs.Places.{byte, number8}
 use Rattle.chart.specs.declared.fault.ChartFault.{ChartFault}
@@ -113,6 +113,10 @@ and_then (Err e) next = Err e
 -- a count at place p and that many records
 abbrev pub section : ℕ → ℕ → ℕ → (ℕ → Bool) → (ℕ → ChartFault) → List ℕ → ℕ → Result ℕ ChartFault
 section low high size good fault bs p = and_then (counted low high bs p) (λ n. records size good fault bs (p + 1) n 0)
+
+-- whatever comes of a call at a number is what the function is there
+abbrev pub Gives : {A : Type 0} → (ℕ → A → Type 0) → (ℕ → A) → Type 0
+Gives {A} post f = (n : ℕ) (a : A) → post n a → a ≡ f n
 
 -- three sections one after the other, and nothing more
 abbrev pub verdict : List ℕ → Result (Unit {0}) ChartFault

@@ -20,6 +20,10 @@ pub record Decoded : Type 0 where
 abbrev pub signal_at : List ℕ → ℕ → Signal
 signal_at bs i = record { kind = kind_of (byte bs (signal_place i)); combining = combining_of (byte bs (signal_place i + 1)) }
 
+-- the signal that a record of ten bytes stands for
+abbrev pub signal_of : List ℕ → Signal
+signal_of r = record { kind = kind_of (byte r 0); combining = combining_of (byte r 1) }
+
 -- the eight bytes that have the name of signal i
 abbrev pub name_field : List ℕ → ℕ → List ℕ
 name_field bs i = take 8 (drop (signal_place i + 2) bs)
@@ -43,6 +47,10 @@ automaton_at bs i = record {
   first = byte bs (automaton_place bs i + 3);
 }
 
+-- the automaton that a record of four bytes stands for
+abbrev pub automaton_of : List ℕ → Automaton
+automaton_of r = record { owner = owner_of (byte r 0) (byte r 1); states = byte r 2; first = byte r 3 }
+
 abbrev pub transition_at : List ℕ → ℕ → Transition
 transition_at bs i = record {
   automaton = byte bs (transition_place bs i);
@@ -52,6 +60,18 @@ transition_at bs i = record {
   forbidden = number8 bs (transition_place bs i + 11);
   emitted = number8 bs (transition_place bs i + 19);
   amount = number4 bs (transition_place bs i + 27);
+}
+
+-- the transition that a record of 31 bytes stands for
+abbrev pub transition_of : List ℕ → Transition
+transition_of r = record {
+  automaton = byte r 0;
+  source = byte r 1;
+  target = byte r 2;
+  needed = number8 r 3;
+  forbidden = number8 r 11;
+  emitted = number8 r 19;
+  amount = number4 r 27;
 }
 
 unfoldable pub decode : List ℕ → Decoded

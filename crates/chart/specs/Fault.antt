@@ -1,5 +1,5 @@
 -- Layer, number and detail of a fault of a chart file. Assumes nothing.
-use Rattle.std.specs.Prelude.{ℕ, List, codes}
+use Rattle.std.specs.Prelude.{ℕ, List, ◌∷◌, ◌++◌, codes, decimal}
 use Rattle.chart.specs.declared.fault.ChartFault.{ChartFault}
 use Rattle.chart.specs.declared.fault.ChartFault.TheVariants.{EndsEarly, CountOutOfRange, BrokenSignal, BrokenAutomaton, BrokenTransition, BytesRemain}
 
@@ -23,3 +23,7 @@ detail_of (BrokenSignal p) = p
 detail_of (BrokenAutomaton p) = p
 detail_of (BrokenTransition p) = p
 detail_of (BytesRemain p) = p
+
+-- number, space, detail
+abbrev pub text_of : ChartFault → List ℕ
+text_of f = decimal (number_of f) ++ (32 ∷ decimal (detail_of f))

@@ -2,6 +2,8 @@ pub mod Check
 pub mod Codes
 pub mod Decoded
 pub mod Fault
+pub mod Few
 pub mod Layout
 pub mod Places
 pub mod View
+pub mod Views

@@ -1,5 +1,6 @@
 -- Where the sections and records of a chart file stand. Assumes nothing.
-use Rattle.std.specs.Prelude.{ℕ, ◌+◌, ◌*◌, List, slice_index}
+use Rattle.std.specs.Prelude.{ℕ, ◌+◌, ◌*◌, cond, List, map, take, drop, Some, None, Option, nat_lt, slice_index}
+use Rattle.std.specs.List.{range_with_len}
 
 -- the byte at a place
 abbrev pub byte : List ℕ → ℕ → ℕ
@@ -44,3 +45,11 @@ abbrev pub number8 : List ℕ → ℕ → ℕ
 number8 bs p =
     byte bs p * 72057594037927936 + byte bs (p + 1) * 281474976710656 + byte bs (p + 2) * 1099511627776 + byte bs (p + 3) * 4294967296
     + byte bs (p + 4) * 16777216 + byte bs (p + 5) * 65536 + byte bs (p + 6) * 256 + byte bs (p + 7)
+
+-- record i of the section whose count stands at place p, `size` bytes; none for any other number
+abbrev pub record_of : List ℕ → ℕ → ℕ → ℕ → Option (List ℕ)
+record_of bs p size i = cond (nat_lt i (byte bs p)) (Some (take size (drop (p + 1 + size * i) bs))) None
+
+-- n records of `size` bytes from place p on
+abbrev pub records_from : List ℕ → ℕ → ℕ → ℕ → List (List ℕ)
+records_from bs size p n = map (λ k. take size (drop (p + size * k) bs)) (range_with_len 0 n)

@@ -1,11 +1,7 @@
 -- What the accessors of a chart answer. Assumes nothing.
-use Rattle.std.specs.Prelude.{◌≡◌, ℕ, ◌+◌, ◌<◌, ◌≤◌, cond, List, [], length, take, drop, Option, MatchOption, nat_lt, slice_index_or}
+use Rattle.std.specs.Prelude.{◌≡◌, ℕ, ◌+◌, cond, List, [], length, take, drop, nat_lt, slice_index_or}
 use Rattle.chart.specs.Decoded.{decode}
 use Rattle.chart.specs.Places.{signal_place}
-
--- the place of record i among n, with `size` bytes in the file; none for any other number
-abbrev pub PlacedAt : ℕ → ℕ → (ℕ → ℕ) → ℕ → ℕ → Option ℕ → Type 0
-PlacedAt n i place size end answer = MatchOption answer (n ≤ i) (λ p. (i < n) × (p ≡ place i) × (p + size ≤ end))
 
 -- a name and its place: the name of signal i, or for any other number the file's empty end
 pub record NamedAt (bs : List ℕ) (i : ℕ) (name : List ℕ) (place : ℕ) : Type 0 where

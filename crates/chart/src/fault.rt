@@ -1,8 +1,10 @@
 // Why a chart file is refused.
-ghost use Rattle.std.specs.Prelude.{◌≡◌};
-ghost use Rattle.chart.specs.Fault.{detail_of, layer_of, number_of};
+ghost use Rattle.std.specs.Prelude.{◌≡◌, Some};
+ghost use Rattle.chart.specs.Fault.{detail_of, layer_of, number_of, text_of};
 
-#[derive(Clone, Copy)]
+use std::fmt;
+
+#[derive(Clone, Copy, Debug, PartialEq, Eq)]
 pub enum ChartFault {
     // The bytes end early: their number.
     EndsEarly(usize),
@@ -42,12 +44,21 @@ impl ChartFault {
         ensures { result ≡ detail_of self.now }
     {
         match self {
-            ChartFault::EndsEarly(n) => *n,
-            ChartFault::CountOutOfRange(place) => *place,
-            ChartFault::BrokenSignal(place) => *place,
-            ChartFault::BrokenAutomaton(place) => *place,
-            ChartFault::BrokenTransition(place) => *place,
-            ChartFault::BytesRemain(place) => *place,
+            ChartFault::EndsEarly(detail)
+            | ChartFault::CountOutOfRange(detail)
+            | ChartFault::BrokenSignal(detail)
+            | ChartFault::BrokenAutomaton(detail)
+            | ChartFault::BrokenTransition(detail)
+            | ChartFault::BytesRemain(detail) => *detail,
         }
+    }
+}
+
+// Number, space, detail.
+impl fmt::Display for ChartFault {
+    ghost output = { λ x. Some (text_of x) };
+
+    fn fmt<W: fmt::Write>(&self, f: &mut fmt::Formatter<W>) -> fmt::Result {
+        write!(f, "{} {}", self.number(), self.detail())
     }
 }

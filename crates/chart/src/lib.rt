@@ -1,37 +1,38 @@
 // Chart files: their check, and the view on a file that keeps the layout.
 #![tactic(auto)]
 
-ghost use Rattle.std.specs.Prelude.{◌≡◌, ◌+◌, ◌≤◌, length};
-ghost use Rattle.chart.specs.Places.{number4, number8};
+ghost use Rattle.std.specs.Prelude.{◌≡◌, ◌+◌, ◌*◌, ◌<◌, ◌≤◌, length, take, drop};
+ghost use Rattle.chart.specs.Decoded.{name_length};
+ghost use Rattle.chart.specs.Places.{records_from};
 
 pub mod automaton;
 pub mod check;
 pub mod fault;
+pub mod records;
 pub mod signal;
 pub mod transition;
 pub mod view;
 
-// The big-endian number of four bytes at a place.
-fn read_u32(bytes: &[u8], at: usize) -> u32
-    requires { at + 4 ≤ length bytes.now }
-    ensures { result ≡ number4 bytes.now at }
+// The N bytes from a place on.
+fn array_at<const N: usize>(bytes: &[u8], at: usize) -> [u8; N]
+    requires { at + N ≤ length bytes.now }
+    ensures { result ≡ take N (drop at bytes.now) }
 {
-    u32::from_be_bytes([bytes[at], bytes[at + 1], bytes[at + 2], bytes[at + 3]])
+    *bytes[at..].first_chunk().unwrap()
 }
 
-// The big-endian number of eight bytes at a place.
-fn read_u64(bytes: &[u8], at: usize) -> u64
-    requires { at + 8 ≤ length bytes.now }
-    ensures { result ≡ number8 bytes.now at }
+// The first `count` records of N bytes from a place on.
+fn records_of<const N: usize>(bytes: &[u8], first: usize, count: usize) -> &[[u8; N]]
+    requires size { 0 < N }
+    requires room { first + N * count ≤ length bytes.now }
+    ensures { result.now ≡ records_from bytes.now N first count }
 {
-    u64::from_be_bytes([
-        bytes[at],
-        bytes[at + 1],
-        bytes[at + 2],
-        bytes[at + 3],
-        bytes[at + 4],
-        bytes[at + 5],
-        bytes[at + 6],
-        bytes[at + 7],
-    ])
+    &bytes[first..].as_chunks().0[..count]
+}
+
+// How many bytes of a name come before the first zero.
+fn length_of_name(field: &[u8]) -> usize
+    ensures { result ≡ name_length field.now }
+{
+    field.iter().take_while(|b| **b != 0).count()
 }

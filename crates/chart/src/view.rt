@@ -1,17 +1,19 @@
 // The view on a chart file that keeps the layout.
-ghost use Rattle.std.specs.Prelude.{◌≡◌, ◌+◌, ◌*◌, ◌<◌, ◌≤◌, length, take, drop};
-ghost use Rattle.std.specs.Option.{option_map};
+ghost use Rattle.std.specs.Prelude.{◌≡◌, ◌+◌, ◌*◌, ◌<◌, ◌≤◌, length, take, drop, MatchResult};
 ghost use Rattle.std.specs.List.{slice_get};
-ghost use Rattle.chart.specs.Codes.{combining_of, kind_of};
-ghost use Rattle.chart.specs.Decoded.{decode, input, name_length, owner_of};
+ghost use Rattle.chart.specs.Check.{verdict};
+ghost use Rattle.chart.specs.Decoded.{decode, input};
 ghost use Rattle.chart.specs.Layout.{Layout};
-ghost use Rattle.chart.specs.Places.{automata_at, automaton_count, automaton_place, end_of, signal_count, signal_place, transition_count, transition_place, transitions_at};
-ghost use Rattle.chart.specs.View.{NamedAt, PlacedAt};
+ghost use Rattle.chart.specs.Places.{automata_at, byte, end_of, record_of, transitions_at};
+ghost use Rattle.chart.specs.View.{NamedAt};
 
-use crate::automaton::{Automaton, Owner};
-use crate::signal::{Combining, Kind, Name, Signal};
+use crate::automaton::Automaton;
+use crate::check::check;
+use crate::fault::ChartFault;
+use crate::records::{Automata, Signals, Transitions};
+use crate::signal::{Kind, Name, Signal};
 use crate::transition::Transition;
-use crate::{read_u32, read_u64};
+use crate::{array_at, length_of_name};
 
 // No chart exists whose bytes break a rule.
 #[derive(Clone, Copy)]
@@ -29,50 +31,27 @@ pub fn view<'a>(bytes: &'a [u8]) -> Chart<'a>
     Chart { bytes }
 }
 
-fn kind(b: u8) -> Kind
-    ensures { result ≡ kind_of b }
+// Record i of the section whose count stands at a place, N bytes; none for any other number.
+fn record<const N: usize>(bytes: &[u8], at: usize, i: usize) -> Option<[u8; N]>
+    requires { at + 1 + N * byte bytes.now at ≤ length bytes.now }
+    ensures { result ≡ record_of bytes.now at N i }
 {
-    match b {
-        0 => Kind::Input,
-        1 => Kind::Output,
-        _ => Kind::Local,
-    }
-}
-
-fn combining(b: u8) -> Combining
-    ensures { result ≡ combining_of b }
-{
-    match b {
-        0 => Combining::Plain,
-        1 => Combining::Sum,
-        _ => Combining::Largest,
-    }
-}
-
-// The owner that two bytes stand for; 255 is the top.
-fn owner(automaton: u8, state: u8) -> Option<Owner>
-    ensures { result ≡ owner_of automaton state }
-{
-    if automaton == 255 {
+    if i >= usize::from(bytes[at]) {
         return None;
     }
-    Some(Owner { automaton, state })
+    Some(array_at(bytes, at + 1 + N * i))
 }
 
-// How many of eight bytes come before the first zero.
-fn length_of_name(bytes: &[u8], at: usize) -> usize
-    requires { at + 8 ≤ length bytes.now }
-    ensures { (result ≡ name_length (take 8 (drop at bytes.now))) × (result ≤ 8) }
-{
-    for k in 0..8 {
-        if bytes[at + k] == 0 {
-            return k;
-        }
-    }
-    8
-}
-
+// The clauses write `decode self.now.bytes.now` out: this file cannot import a definition over the `Chart` that it declares.
 impl<'a> Chart<'a> {
+    // The check and the view in one: the chart of a file that keeps the layout, or the first fault of any other.
+    pub fn open(bytes: &'a [u8]) -> Result<Chart<'a>, ChartFault>
+        ensures { MatchResult result (λ c. (verdict bytes.now ≡ Ok tt) × (c.bytes.now ≡ bytes.now)) (λ fault. verdict bytes.now ≡ Err fault) }
+    {
+        check(bytes)?;
+        Ok(view(bytes))
+    }
+
     // The place of the automata's count.
     fn automata_at(&self) -> usize
         ensures { (result ≡ automata_at self.now.bytes.now) × (result < length self.now.bytes.now) }
@@ -86,38 +65,6 @@ impl<'a> Chart<'a> {
     {
         let at = self.automata_at();
         at + 1 + 4 * usize::from(self.bytes[at])
-    }
-
-    // The place of signal i.
-    fn signal_at(&self, i: usize) -> Option<usize>
-        ensures { PlacedAt (signal_count self.now.bytes.now) i signal_place 10 (length self.now.bytes.now) result }
-    {
-        if i >= usize::from(self.bytes[0]) {
-            return None;
-        }
-        Some(1 + 10 * i)
-    }
-
-    // The place of automaton k.
-    fn automaton_at(&self, k: usize) -> Option<usize>
-        ensures { PlacedAt (automaton_count self.now.bytes.now) k (automaton_place self.now.bytes.now) 4 (length self.now.bytes.now) result }
-    {
-        let at = self.automata_at();
-        if k >= usize::from(self.bytes[at]) {
-            return None;
-        }
-        Some(at + 1 + 4 * k)
-    }
-
-    // The place of transition i.
-    fn transition_at(&self, i: usize) -> Option<usize>
-        ensures { PlacedAt (transition_count self.now.bytes.now) i (transition_place self.now.bytes.now) 31 (length self.now.bytes.now) result }
-    {
-        let at = self.transitions_at();
-        if i >= usize::from(self.bytes[at]) {
-            return None;
-        }
-        Some(at + 1 + 31 * i)
     }
 
     // How many signals there are.
@@ -146,21 +93,15 @@ impl<'a> Chart<'a> {
     pub fn signal(&self, i: usize) -> Option<Signal>
         ensures { result ≡ slice_get (decode self.now.bytes.now).signals i }
     {
-        let at = self.signal_at(i)?;
-        Some(Signal {
-            kind: kind(self.bytes[at]),
-            combining: combining(self.bytes[at + 1]),
-        })
+        record(self.bytes, 0, i).map(Signal::from)
     }
 
     // Whether signal i is an input.
     pub fn is_input(&self, i: usize) -> bool
         ensures { result ≡ input (decode self.now.bytes.now) i }
     {
-        match self.signal(i) {
-            Some(signal) => matches!(signal.kind, Kind::Input),
-            None => false,
-        }
+        self.signal(i)
+            .is_some_and(|signal| signal.kind == Kind::Input)
     }
 
     // The name of signal i; for any other number the file's empty end.
@@ -168,17 +109,18 @@ impl<'a> Chart<'a> {
         ensures { NamedAt self.now.bytes.now i result.bytes.now result.place }
     {
         let bytes = self.bytes;
-        let Some(at) = self.signal_at(i) else {
+        if i >= usize::from(bytes[0]) {
             let place = bytes.len();
             return Name {
                 bytes: &bytes[place..],
                 place,
             };
-        };
-        let place = at + 2;
-        let end = place + length_of_name(bytes, place);
+        }
+        let place = 1 + 10 * i + 2;
+        let rest = &bytes[place..];
+        let length = length_of_name(&rest[..8]);
         Name {
-            bytes: &bytes[place..end],
+            bytes: &rest[..length],
             place,
         }
     }
@@ -187,83 +129,34 @@ impl<'a> Chart<'a> {
     pub fn automaton(&self, k: usize) -> Option<Automaton>
         ensures { result ≡ slice_get (decode self.now.bytes.now).automata k }
     {
-        let at = self.automaton_at(k)?;
-        Some(Automaton {
-            owner: owner(self.bytes[at], self.bytes[at + 1]),
-            states: self.bytes[at + 2],
-            first: self.bytes[at + 3],
-        })
+        record(self.bytes, self.automata_at(), k).map(Automaton::from)
     }
 
     // Transition i.
     pub fn transition(&self, i: usize) -> Option<Transition>
         ensures { result ≡ slice_get (decode self.now.bytes.now).transitions i }
     {
-        let at = self.transition_at(i)?;
-        Some(Transition {
-            automaton: self.bytes[at],
-            source: self.bytes[at + 1],
-            target: self.bytes[at + 2],
-            needed: read_u64(self.bytes, at + 3),
-            forbidden: read_u64(self.bytes, at + 11),
-            emitted: read_u64(self.bytes, at + 19),
-            amount: read_u32(self.bytes, at + 27),
-        })
+        record(self.bytes, self.transitions_at(), i).map(Transition::from)
     }
 
-    // The automaton of transition i.
-    pub fn automaton_of(&self, i: usize) -> Option<u8>
-        ensures { result ≡ option_map (λ t. t.automaton) (slice_get (decode self.now.bytes.now).transitions i) }
+    // The signals, in file order.
+    pub fn all_signals(&self) -> Signals<'a>
+        ensures { drop result.next (decode result.chart.bytes.now).signals ≡ (decode self.now.bytes.now).signals }
     {
-        let at = self.transition_at(i)?;
-        Some(self.bytes[at])
+        Signals::all(*self)
     }
 
-    // The source of transition i.
-    pub fn source(&self, i: usize) -> Option<u8>
-        ensures { result ≡ option_map (λ t. t.source) (slice_get (decode self.now.bytes.now).transitions i) }
+    // The automata, in file order.
+    pub fn all_automata(&self) -> Automata<'a>
+        ensures { drop result.next (decode result.chart.bytes.now).automata ≡ (decode self.now.bytes.now).automata }
     {
-        let at = self.transition_at(i)?;
-        Some(self.bytes[at + 1])
+        Automata::all(*self)
     }
 
-    // The target of transition i.
-    pub fn target(&self, i: usize) -> Option<u8>
-        ensures { result ≡ option_map (λ t. t.target) (slice_get (decode self.now.bytes.now).transitions i) }
+    // The transitions, in file order.
+    pub fn all_transitions(&self) -> Transitions<'a>
+        ensures { drop result.next (decode result.chart.bytes.now).transitions ≡ (decode self.now.bytes.now).transitions }
     {
-        let at = self.transition_at(i)?;
-        Some(self.bytes[at + 2])
-    }
-
-    // The signals that transition i needs.
-    pub fn needed(&self, i: usize) -> Option<u64>
-        ensures { result ≡ option_map (λ t. t.needed) (slice_get (decode self.now.bytes.now).transitions i) }
-    {
-        let at = self.transition_at(i)?;
-        Some(read_u64(self.bytes, at + 3))
-    }
-
-    // The signals that transition i forbids.
-    pub fn forbidden(&self, i: usize) -> Option<u64>
-        ensures { result ≡ option_map (λ t. t.forbidden) (slice_get (decode self.now.bytes.now).transitions i) }
-    {
-        let at = self.transition_at(i)?;
-        Some(read_u64(self.bytes, at + 11))
-    }
-
-    // The signals that transition i emits.
-    pub fn emitted(&self, i: usize) -> Option<u64>
-        ensures { result ≡ option_map (λ t. t.emitted) (slice_get (decode self.now.bytes.now).transitions i) }
-    {
-        let at = self.transition_at(i)?;
-        Some(read_u64(self.bytes, at + 19))
-    }
-
-    // The amount of transition i.
-    pub fn amount(&self, i: usize) -> Option<u32>
-        ensures { result ≡ option_map (λ t. t.amount) (slice_get (decode self.now.bytes.now).transitions i) }
-    {
-        let at = self.transition_at(i)?;
-        Some(read_u32(self.bytes, at + 27))
+        Transitions::all(*self)
     }
 }

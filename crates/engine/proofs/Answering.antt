@@ -1,7 +1,7 @@
 -- What is said of an instant holds of the answer that the rules give. Assumes nothing.
-use Rattle.std.proofs.Common.{◌≡◌, ℕ, ◌≤◌, false, not, eqb, ltb, ◌⊎◌, List, length, get_or, Option, sym, refl, ap, ◌∙◌, subst, ⊎_elim, arith}
+use Rattle.std.proofs.Common.{◌≡◌, ℕ, ◌≤◌, false, eqb, ltb, ◌⊎◌, List, length, get_or, Option, sym, refl, ap, ◌∙◌, subst, ⊎_elim, arith}
 use Rattle.std.proofs.lemmas.List.{ext_get_or, take_all}
-use Rattle.std.proofs.lemmas.Bool.{and_from, both_ways, cond_both, cond-false, cond-true, eq-eqb, le-ltb, lt-ltb, ne_eqb, not_from_true}
+use Rattle.std.proofs.lemmas.Bool.{and_from, both_ways, cond_both, cond-false, cond-true, eq-eqb, le-ltb, lt-ltb, ne_eqb}
 use Rattle.bits.specs.Bits.{bit}
 use Rattle.bits.proofs.Digits.{bit_zero}
 use Rattle.bits.proofs.Masks.{bit_mask, mask_cases}
@@ -14,12 +14,12 @@ use Rattle.status.specs.Status.{unknown}
 use Rattle.status.specs.declared.status.Status.{Status}
 use Rattle.status.proofs.Resolving.{resolved}
 use Rattle.reaction.specs.Next.{next}
-use Rattle.reaction.specs.React.{react, reaction, unresolved_in}
+use Rattle.reaction.specs.React.{reaction, unresolved_in}
 use Rattle.reaction.specs.declared.fault.Fault.TheVariants.{Instant}
 use Rattle.reaction.specs.declared.fault.InstantFault.TheVariants.{Unresolved}
-use Rattle.engine.specs.Answer.{Held, Outcome, Reply, accepted, not_inputs, outcome_of, places_needed, publishes, refused, writes}
+use Rattle.engine.specs.Answer.{Held, Outcome, Reply, accepted, outcome_of, publishes, refused, writes}
 use Rattle.engine.specs.Instant.{InstantLaw, Least, Names, Passes, SomeUnknown, line_for}
-use Rattle.engine.proofs.Inputs.{only_inputs}
+use Rattle.engine.proofs.Outcomes.{passed}
 use Rattle.engine.proofs.Unique.{one_status, status_only}
 
 -- the configuration that these statuses lead to
@@ -54,14 +54,6 @@ same_statuses h room xs line after ys text = cond_both (ltb room (length line)) 
     (λ t e. cc)
 
 module _ (c : Decoded) (h : Held) (mask places room : ℕ) where
-  -- an instant that passes the earlier checks is answered by its reaction
-  passed : Passes c h mask places → outcome_of c h mask places room ≡ publishes c h room (react c h.states mask)
-  passed p =
-      let small = p.1 in
-      cond-false (not (eqb (not_inputs c mask) 0)) _ _ (not_from_true (eqb (not_inputs c mask) 0) (eq-eqb (not_inputs c mask) 0 (only_inputs c mask p.0)))
-      ∙ cond-false (eqb h.count 1000000) _ _ (ne_eqb h.count 1000000 (λ e. omega arith))
-      ∙ cond-false (ltb places (places_needed c)) _ _ (le-ltb places (places_needed c) p.2)
-
   module _ (few : length c.signals ≤ 64) (xs : List Status) (low : Least (status_equations c h.states mask) xs) where
     -- what the least solution tells
     least_tells : Resolved c h.states mask xs xs (λ _. false) (unresolved_in c xs)
@@ -79,7 +71,7 @@ module _ (c : Decoded) (h : Held) (mask places room : ℕ) where
     module _ (passes : Passes c h mask places) (reply : Reply) (is : reply ≡ (outcome_of c h mask places room).reply) where
       -- the answer comes from the reaction of the least solution
       reacted : reply ≡ (publishes c h room (reaction c h.states xs)).reply
-      reacted = is ∙ ap (λ o. o.reply) (passed passes) ∙ ap (λ ys. (publishes c h room (reaction c h.states ys)).reply) (sym (status_only c h.states mask few xs low))
+      reacted = is ∙ ap (λ o. o.reply) (passed c h mask places room passes) ∙ ap (λ ys. (publishes c h room (reaction c h.states ys)).reply) (sym (status_only c h.states mask few xs low))
 
       -- signals are unknown
       reply_unresolved : SomeUnknown c xs → reply ≡ refused (Instant (Unresolved (unresolved_in c xs)))

@@ -1,6 +1,7 @@
 pub mod Answering
 pub mod Inputs
 pub mod Lines
+pub mod Outcomes
 pub mod Pasts
 pub mod Possible
 pub mod Publishing

@@ -15,7 +15,7 @@ use Rattle.status.specs.declared.status.Status.{Status}
 use Rattle.reaction.proofs.Settling.{getD_defaults}
 use Rattle.analysis.specs.Reach.{possible, possible_in, reach_equations, reached_in}
 use Rattle.analysis.specs.Reach as Reach
-use Rattle.analysis.specs.declared.stateset.StateSet.{StateSet}
+use Rattle.bits.specs.declared.set.NumberSet.{NumberSet as StateSet}
 use Rattle.analysis.proofs.Closure.{signal_possible}
 use Rattle.engine.specs.Reached.{SignalsPossible, StatesReached}
 

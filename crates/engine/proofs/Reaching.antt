@@ -12,7 +12,7 @@ use Rattle.reaction.specs.Next.{automaton, next, no_automaton, padded, starting}
 use Rattle.reaction.proofs.Keeping.{OfOwner, next_kept, starting_kept}
 use Rattle.reaction.proofs.Moving.{moves_it}
 use Rattle.analysis.specs.Reach.{entered, reach_equations, reached_in}
-use Rattle.analysis.specs.declared.stateset.StateSet.{StateSet}
+use Rattle.bits.specs.declared.set.NumberSet.{NumberSet as StateSet}
 use Rattle.analysis.proofs.Closure.{first_reached, target_reached}
 use Rattle.engine.specs.Reached.{SignalsPossible, StatesReached}
 use Rattle.engine.proofs.Possible.{assigned_possible, guard_possible}

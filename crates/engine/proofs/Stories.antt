@@ -41,12 +41,12 @@ module _ (c : Decoded) where
       ((λ i. answered mask places room (h.0 i) ∷ later.0 i), later.1)
 
 -- one more call, with the answer that the rules give
-pub behind_instant : (bytes : List ℕ) (story : List Told) (h : Held) (mask places room : ℕ) → Behind bytes story h
-    → Behind bytes (story ++ (answered mask places room (outcome_of (decode bytes) h mask places room).reply ∷ [])) (outcome_of (decode bytes) h mask places room).after
-behind_instant bytes story h mask places room b = follows_append (decode bytes) (at_start (decode bytes)) h _ story _ b (refl, refl)
+pub behind_instant : (bytes : List ℕ) (h then : Held) (mask places room : ℕ) → then ≡ (outcome_of (decode bytes) h mask places room).after
+    → (story : List Told) → Behind bytes story h → Behind bytes (story ++ (answered mask places room (outcome_of (decode bytes) h mask places room).reply ∷ [])) then
+behind_instant bytes h then mask places room e story b = follows_append (decode bytes) (at_start (decode bytes)) h then story _ b (refl, sym e)
 
-pub behind_reset : (bytes : List ℕ) (story : List Told) (h : Held) → Behind bytes story h → Behind bytes (story ++ (was_reset ∷ [])) (at_start (decode bytes))
-behind_reset bytes story h b = follows_append (decode bytes) (at_start (decode bytes)) h _ story (was_reset ∷ []) b refl
+pub behind_reset : (bytes : List ℕ) (h then : Held) → then ≡ at_start (decode bytes) → (story : List Told) → Behind bytes story h → Behind bytes (story ++ (was_reset ∷ [])) then
+behind_reset bytes h then e story b = follows_append (decode bytes) (at_start (decode bytes)) h then story (was_reset ∷ []) b (sym e)
 
 -- every list of calls is one story
 pub one_story : (bytes : List ℕ) (calls : List Call) → OneStory bytes calls

@@ -11,8 +11,9 @@ use Rattle.status.specs.Status.{status}
 use Rattle.status.specs.StatusLaws.{status_laws}
 use Rattle.status.specs.declared.status.Status.{Status}
 use Rattle.analysis.specs.Reach.{reach_equations}
-use Rattle.analysis.specs.ReachLaws.{chart_laws, same_bits}
-use Rattle.analysis.specs.declared.stateset.StateSet.{StateSet}
+use Rattle.analysis.specs.ReachLaws.{chart_laws}
+use Rattle.bits.proofs.Sets.{same_bits}
+use Rattle.bits.specs.declared.set.NumberSet.{NumberSet as StateSet}
 use Rattle.engine.specs.Instant.{Least, OneLeast}
 
 module _ {E : Type 0} (s : Equations E) (laws : Laws s) (code : Coded E) where

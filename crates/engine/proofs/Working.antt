@@ -1,7 +1,9 @@
 -- The worked cases are right: one computed test over all rows, and what it says at each. Assumes nothing.
-use Rattle.std.proofs.Common.{◌≡◌, ℕ, zero, suc, List, [], ◌∷◌, map, get_or, drop, Some, Ok, Result, refl, ap, subst, arith}
+use Rattle.std.proofs.Common.{◌≡◌, ℕ, List, map, Some, Ok, Result, sym, refl, ap, ◌∙◌}
 use Rattle.std.specs.Fmt.{digits}
 use Rattle.std.specs.List.{slice_get}
+use Rattle.std.specs.Option.{option_map}
+use Rattle.std.proofs.lemmas.Option.{slice_get-map}
 use Rattle.bits.specs.Bits.{bit}
 use Rattle.bits.specs.Members.{members}
 use Rattle.fixpoint.specs.System.{rounds}
@@ -16,11 +18,10 @@ use Rattle.engine.specs.Cases.{Right, Row, Said, first_said, rows}
 
 -- what two functions give alike over a list, they give alike at each element
 same_each : {A B : Type 0} (f g : A → B) (xs : List A) → map f xs ≡ map g xs → (k : ℕ) (x : A) → slice_get xs k ≡ Some x → f x ≡ g x
-same_each f g [] e k x at = let z : ◌≡◌ {A = ℕ} 0 1 = cc in absurd (omega arith)
-same_each f g (y ∷ ys) e zero x at =
-    let is : y ≡ x = cc in
-    subst (λ z. f z ≡ g z) is (ap (λ zs. get_or zs 0 (f y)) e)
-same_each f g (y ∷ ys) e (suc k) x at = same_each f g ys (ap (drop 1) e) k x at
+same_each f g xs e k x at =
+    let same : option_map f (Some x) ≡ option_map g (Some x) =
+    ap (option_map f) (sym at) ∙ sym (slice_get-map f xs k) ∙ ap (λ zs. slice_get zs k) e ∙ slice_get-map g xs k ∙ ap (option_map g) at in
+    cc
 
 -- what the check of the file and the instant answer, and what they should
 abbrev tested : Row → Result (Unit {0}) ChartFault × Said

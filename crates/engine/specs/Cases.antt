@@ -1,5 +1,6 @@
 -- The worked cases: small files, one instant after the start on each, and its answer. Assumes nothing.
-use Rattle.std.specs.Prelude.{◌≡◌, ℕ, ◌-◌, ◌/◌, ◌%◌, List, [], ◌∷◌, ◌++◌, length, replicate, codes}
+use Rattle.std.specs.Prelude.{◌≡◌, ℕ, ◌-◌, ◌/◌, ◌%◌, List, [], ◌∷◌, ◌++◌, length, replicate, codes, Ok, Err, Result}
+use Rattle.std.specs.Borrow.{Bor}
 use Rattle.std.specs.List.{flat_map}
 use Rattle.chart.specs.Decoded.{decode}
 use Rattle.chart.specs.Layout.{Layout}
@@ -8,18 +9,15 @@ use Rattle.reaction.specs.declared.fault.Fault.TheVariants.{Instant}
 use Rattle.reaction.specs.declared.fault.InstantFault.TheVariants.{Unresolved, LongLine}
 use Rattle.engine.specs.Answer.{Reply, accepted, at_start, outcome_of, refused}
 use Rattle.engine.specs.declared.cases.Case.{Case}
-use Rattle.engine.specs.declared.cases.Expected.{Expected}
-use Rattle.engine.specs.declared.cases.Expected.TheVariants.{Line, Refused}
 
--- an answer without the statuses: a fault, or the bytes of the line
-pub data Said : Type 0 where
-  fault : (why : Fault) → Said
-  line : (bytes : List ℕ) → Said
+-- an answer without the statuses: the bytes of the line, or a fault
+abbrev pub Said : Type 0
+Said = Result (List ℕ) Fault
 
 -- a reply without its statuses
 abbrev pub said : Reply → Said
-said (refused why) = fault why
-said (accepted statuses bytes) = line bytes
+said (refused why) = Err why
+said (accepted statuses bytes) = Ok bytes
 
 -- a case: what it shows, the bytes of the file, the mask, the number of places, the room for the line, and the answer
 pub record Row : Type 0 where
@@ -31,9 +29,9 @@ pub record Row : Type 0 where
   pub answer : Said
 
 -- an answer as the code has it
-abbrev pub answer_of : Expected → Said
-answer_of (Line bytes) = line bytes.now
-answer_of (Refused why) = fault why
+abbrev pub answer_of : Result (Bor (List ℕ)) Fault → Said
+answer_of (Ok bytes) = Ok bytes.now
+answer_of (Err why) = Err why
 
 -- a case as the code has it
 abbrev pub row_of : Case → Row
@@ -115,13 +113,13 @@ amounts one other = file_of (signal_bytes 0 0 (codes "ask") ∷ signal_bytes 1 1
 -- the cases
 abbrev pub rows : List Row
 rows =
-    record { name = codes "ask_sells"; file = handover; mask = 1; places = 3; room = 22; answer = line (codes "1: hold sold=45 / 1 1\n") } ∷
-    record { name = codes "silence"; file = handover; mask = 0; places = 3; room = 22; answer = line (codes "1: / 0 0\n") } ∷
-    record { name = codes "self_supporting"; file = alone (under_itself ∷ []); mask = 0; places = 1; room = 22; answer = fault (Instant (Unresolved 1)) } ∷
-    record { name = codes "self_denying"; file = alone (under_absence ∷ []); mask = 0; places = 1; room = 22; answer = fault (Instant (Unresolved 1)) } ∷
-    record { name = codes "either_way"; file = alone (under_itself ∷ under_absence ∷ []); mask = 0; places = 1; room = 22; answer = fault (Instant (Unresolved 1)) } ∷
-    record { name = codes "resolved_cycle"; file = cycle; mask = 1; places = 3; room = 22; answer = line (codes "1: / 0 0\n") } ∷
-    record { name = codes "owner_leaves"; file = owned; mask = 1; places = 2; room = 22; answer = line (codes "1: hold / 1 -\n") } ∷
-    record { name = codes "amounts_combined"; file = amounts 45 30; mask = 1; places = 3; room = 40; answer = line (codes "1: sum=75 most=45 / 0 0\n") } ∷
-    record { name = codes "sum_stops"; file = amounts 4294967295 1; mask = 1; places = 3; room = 40; answer = line (codes "1: sum=4294967295 most=4294967295 / 0 0\n") } ∷
-    record { name = codes "line_too_short"; file = handover; mask = 1; places = 3; room = 21; answer = fault (Instant (LongLine 22)) } ∷ []
+    record { name = codes "ask_sells"; file = handover; mask = 1; places = 3; room = 22; answer = Ok (codes "1: hold sold=45 / 1 1\n") } ∷
+    record { name = codes "silence"; file = handover; mask = 0; places = 3; room = 22; answer = Ok (codes "1: / 0 0\n") } ∷
+    record { name = codes "self_supporting"; file = alone (under_itself ∷ []); mask = 0; places = 1; room = 22; answer = Err (Instant (Unresolved 1)) } ∷
+    record { name = codes "self_denying"; file = alone (under_absence ∷ []); mask = 0; places = 1; room = 22; answer = Err (Instant (Unresolved 1)) } ∷
+    record { name = codes "either_way"; file = alone (under_itself ∷ under_absence ∷ []); mask = 0; places = 1; room = 22; answer = Err (Instant (Unresolved 1)) } ∷
+    record { name = codes "resolved_cycle"; file = cycle; mask = 1; places = 3; room = 22; answer = Ok (codes "1: / 0 0\n") } ∷
+    record { name = codes "owner_leaves"; file = owned; mask = 1; places = 2; room = 22; answer = Ok (codes "1: hold / 1 -\n") } ∷
+    record { name = codes "amounts_combined"; file = amounts 45 30; mask = 1; places = 3; room = 40; answer = Ok (codes "1: sum=75 most=45 / 0 0\n") } ∷
+    record { name = codes "sum_stops"; file = amounts 4294967295 1; mask = 1; places = 3; room = 40; answer = Ok (codes "1: sum=4294967295 most=4294967295 / 0 0\n") } ∷
+    record { name = codes "line_too_short"; file = handover; mask = 1; places = 3; room = 21; answer = Err (Instant (LongLine 22)) } ∷ []

@@ -5,7 +5,7 @@ use Rattle.status.specs.Configuration.{holds}
 use Rattle.status.specs.declared.status.Status.{Status}
 use Rattle.reaction.specs.Value.{present}
 use Rattle.analysis.specs.Reach.{possible_in, reached_in}
-use Rattle.analysis.specs.declared.stateset.StateSet.{StateSet}
+use Rattle.bits.specs.declared.set.NumberSet.{NumberSet as StateSet}
 use Rattle.engine.specs.Answer.{Reply, accepted, refused}
 use Rattle.engine.specs.Story.{Told, answered, was_reset}
 

@@ -3,7 +3,7 @@ use Rattle.std.specs.Prelude.{◌≡◌, ℕ, List, map}
 use Rattle.chart.specs.Decoded.{decode}
 use Rattle.chart.specs.Layout.{Layout}
 use Rattle.analysis.specs.Reach.{reach_equations}
-use Rattle.analysis.specs.declared.stateset.StateSet.{StateSet}
+use Rattle.bits.specs.declared.set.NumberSet.{NumberSet as StateSet}
 use Rattle.engine.specs.Answer.{Held, at_start}
 use Rattle.engine.specs.Instant.{Least, OneLeast, StoryLaws}
 use Rattle.engine.specs.Reached.{StatesReached, StoryPossible}

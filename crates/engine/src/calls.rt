@@ -1,10 +1,11 @@
 // The calls on a runner: the checks of an instant in their order, the reaction, the line.
-ghost use Rattle.std.specs.Prelude.{◌≡◌, ℕ, ◌+◌, ◌≤◌, List, [], ◌∷◌, ◌++◌, length, Ok, Err, MatchResult};
+ghost use Rattle.std.specs.Prelude.{◌≡◌, ℕ, ◌+◌, length, Ok, Err, MatchResult};
 ghost use Rattle.bits.specs.Bits.{bit};
-ghost use Rattle.chart.specs.Decoded.{decode, input};
+ghost use Rattle.chart.specs.Decoded.{input};
+ghost use Rattle.chart.specs.Views.{decoded};
 ghost use Rattle.engine.specs.Answer.{at_start, not_inputs, outcome_of};
-ghost use Rattle.engine.specs.Runner.{Takes, held};
-ghost use Rattle.engine.specs.Story.{Behind, Told, answered, was_reset};
+ghost use Rattle.engine.specs.Runner.{Adds, SameFile, Takes, held, holding, rules};
+ghost use Rattle.engine.specs.Story.{answered, was_reset};
 
 use crate::runner::Runner;
 use bits::with_bit;
@@ -17,22 +18,18 @@ use status::configuration::Configuration;
 use status::status::Status;
 use trace::line::Line;
 
-// The inputs of a chart, as a mask.
+// The inputs of a chart, as a mask. A chain of its own: one function over any test would have to require that it can be called.
 fn inputs(chart: &Chart) -> u64
-    ensures { (s : ℕ) → bit result s ≡ input (decode chart.now.bytes.now) s }
+    ensures { (s : ℕ) → bit result s ≡ input (decoded chart.now) s }
 {
-    let mut mask = 0;
-    for s in 0..chart.signals() {
-        if chart.is_input(s) {
-            mask = with_bit(mask, s);
-        }
-    }
-    mask
+    (0..chart.signals())
+        .filter(|s| chart.is_input(*s))
+        .fold(0, with_bit)
 }
 
 // The bits of a mask that are not inputs.
 fn other_bits(chart: &Chart, mask: u64) -> u64
-    ensures { result ≡ not_inputs (decode chart.now.bytes.now) mask }
+    ensures { result ≡ not_inputs (decoded chart.now) mask }
 {
     mask & !inputs(chart)
 }
@@ -42,41 +39,6 @@ fn other_bits(chart: &Chart, mask: u64) -> u64
 struct Accepted {
     length: usize,
     after: Configuration,
-}
-
-// Takes an instant: refused with nothing held changed, or accepted.
-fn take_instant<W: Worklist>(
-    chart: &Chart,
-    count: u32,
-    configuration: &Configuration,
-    mask: u64,
-    worklist: &mut W,
-    area: &mut [Status],
-    line: &mut [u8],
-) -> Result<Accepted, Fault>
-    requires { count ≤ 1000000 }
-    ensures { MatchResult result (λ a. Takes (decode chart.now.bytes.now) (held count configuration.now.states) mask area.old area.new (W.waiting worklist.new) (worklist.new ≡ worklist.old) line.old line.new (Ok a.length) (held (count + 1) a.after.states)) (λ f. Takes (decode chart.now.bytes.now) (held count configuration.now.states) mask area.old area.new (W.waiting worklist.new) (worklist.new ≡ worklist.old) line.old line.new (Err f) (held count configuration.now.states)) }
-{
-    let others = other_bits(chart, mask);
-    if others != 0 {
-        return Err(Fault::Instant(InstantFault::NotInputs(others)));
-    }
-    if count == 1_000_000 {
-        return Err(Fault::Instant(InstantFault::CountReached));
-    }
-    let step = react(chart, configuration, mask, worklist, area)?;
-    let told = Line {
-        chart: *chart,
-        count: count + 1,
-        statuses: area,
-        fired: step.fired,
-        after: &step.after,
-    };
-    let length = told.write(line)?;
-    Ok(Accepted {
-        length,
-        after: step.after,
-    })
 }
 
 // What a runner leaves when it is closed.
@@ -89,7 +51,7 @@ pub struct Record {
 impl<'a> Runner<'a> {
     // A runner on a chart.
     pub fn start(chart: Chart<'a>) -> Runner<'a>
-        ensures { (result.chart.bytes.now ≡ chart.entry.bytes.now) × (held result.count result.configuration.states ≡ at_start (decode chart.entry.bytes.now)) }
+        ensures { (result.chart.bytes.now ≡ chart.entry.bytes.now) × (holding result ≡ at_start (decoded chart.entry)) }
     {
         let configuration = start(&chart);
         Runner {
@@ -101,15 +63,48 @@ impl<'a> Runner<'a> {
 
     // Back to the start.
     pub fn reset(&mut self)
-        ensures same { self.new.chart.bytes.now ≡ self.old.chart.bytes.now }
-        ensures holds { held self.new.count self.new.configuration.states ≡ at_start (decode self.old.chart.bytes.now) }
-        ensures stories { (story : List Told) → Behind self.old.chart.bytes.now story (held self.old.count self.old.configuration.states) → Behind self.new.chart.bytes.now (story ++ (was_reset ∷ [])) (held self.new.count self.new.configuration.states) }
+        ensures same { SameFile self.old self.new }
+        ensures holds { holding self.new ≡ at_start (rules self.old) }
+        ensures stories { Adds self.old was_reset self.new }
     {
         self.configuration = start(&self.chart);
         self.count = 0;
     }
 
+    // An instant that changes nothing that is held: refused, or accepted. Its parameters are those of `instant`.
+    fn take<W: Worklist>(
+        &self,
+        mask: u64,
+        worklist: &mut W,
+        area: &mut [Status],
+        line: &mut [u8],
+    ) -> Result<Accepted, Fault>
+        ensures { let takes = Takes (rules self.now) (holding self.now) mask area.old area.new (W.waiting worklist.new) (worklist.new ≡ worklist.old) line.old line.new in MatchResult result (λ a. takes (Ok a.length) (held (self.now.count + 1) a.after.states)) (λ f. takes (Err f) (holding self.now)) }
+    {
+        let others = other_bits(&self.chart, mask);
+        if others != 0 {
+            return Err(Fault::Instant(InstantFault::NotInputs(others)));
+        }
+        if self.count == 1_000_000 {
+            return Err(Fault::Instant(InstantFault::CountReached));
+        }
+        let step = react(&self.chart, &self.configuration, mask, worklist, area)?;
+        let told = Line {
+            chart: self.chart,
+            count: self.count + 1,
+            statuses: area,
+            fired: step.fired,
+            after: &step.after,
+        };
+        let length = told.write(line)?;
+        Ok(Accepted {
+            length,
+            after: step.after,
+        })
+    }
+
     // One instant, with any worklist and area; answers the length of its line.
+    // The mask, the worklist, the area and the buffer are parameters of their own: a rule of the project.
     pub fn instant<W: Worklist>(
         &mut self,
         mask: u64,
@@ -117,19 +112,11 @@ impl<'a> Runner<'a> {
         area: &mut [Status],
         line: &mut [u8],
     ) -> Result<usize, Fault>
-        ensures same { self.new.chart.bytes.now ≡ self.old.chart.bytes.now }
-        ensures takes { Takes (decode self.old.chart.bytes.now) (held self.old.count self.old.configuration.states) mask area.old area.new (W.waiting worklist.new) (worklist.new ≡ worklist.old) line.old line.new result (held self.new.count self.new.configuration.states) }
-        ensures stories { (story : List Told) → Behind self.old.chart.bytes.now story (held self.old.count self.old.configuration.states) → Behind self.new.chart.bytes.now (story ++ (answered mask (length area.old) (length line.old) (outcome_of (decode self.old.chart.bytes.now) (held self.old.count self.old.configuration.states) mask (length area.old) (length line.old)).reply ∷ [])) (held self.new.count self.new.configuration.states) }
+        ensures same { SameFile self.old self.new }
+        ensures takes { Takes (rules self.old) (holding self.old) mask area.old area.new (W.waiting worklist.new) (worklist.new ≡ worklist.old) line.old line.new result (holding self.new) }
+        ensures stories { Adds self.old (answered mask (length area.old) (length line.old) (outcome_of (rules self.old) (holding self.old) mask (length area.old) (length line.old)).reply) self.new }
     {
-        let accepted = take_instant(
-            &self.chart,
-            self.count,
-            &self.configuration,
-            mask,
-            worklist,
-            area,
-            line,
-        )?;
+        let accepted = self.take(mask, worklist, area, line)?;
         self.count += 1;
         self.configuration = accepted.after;
         Ok(accepted.length)

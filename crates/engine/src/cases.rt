@@ -6,14 +6,10 @@ ghost use Rattle.engine.specs.Cases.{Right, Row, row_of, rows};
 use reaction::fault::{Fault, InstantFault};
 
 // The answer of an instant: the bytes of its line, or why it is refused.
-#[derive(Clone, Copy)]
-pub enum Expected {
-    Line(&'static [u8]),
-    Refused(Fault),
-}
+pub type Expected = Result<&'static [u8], Fault>;
 
 // What a case shows, its file, the mask, the number of places, the length of the line buffer, and the answer.
-#[derive(Clone, Copy)]
+#[derive(Clone, Copy, Debug, PartialEq, Eq)]
 pub struct Case {
     pub name: &'static str,
     pub file: &'static [u8],
@@ -24,7 +20,7 @@ pub struct Case {
 }
 
 // On ask the first automaton goes from 0 to 1 and emits hold; on hold the second goes from 0 to 1 and emits sold with amount 45.
-const HANDOVER: &[u8; 103] = b"\x03\
+pub const HANDOVER: &[u8; 103] = b"\x03\
     \x00\x00ask\0\0\0\0\0\
     \x01\x00hold\0\0\0\0\
     \x01\x01sold\0\0\0\0\
@@ -36,7 +32,7 @@ const HANDOVER: &[u8; 103] = b"\x03\
     \x01\x00\x01\0\0\0\0\0\0\0\x02\0\0\0\0\0\0\0\x00\0\0\0\0\0\0\0\x04\0\0\0\x2d";
 
 // An output that is emitted under itself.
-const SELF_SUPPORTING: &[u8; 48] = b"\x01\
+pub const SELF_SUPPORTING: &[u8; 48] = b"\x01\
     \x01\x00x\0\0\0\0\0\0\0\
     \x01\
     \xff\x00\x01\x00\
@@ -44,7 +40,7 @@ const SELF_SUPPORTING: &[u8; 48] = b"\x01\
     \x00\x00\x00\0\0\0\0\0\0\0\x01\0\0\0\0\0\0\0\x00\0\0\0\0\0\0\0\x01\0\0\0\x00";
 
 // An output that is emitted under its absence.
-const SELF_DENYING: &[u8; 48] = b"\x01\
+pub const SELF_DENYING: &[u8; 48] = b"\x01\
     \x01\x00x\0\0\0\0\0\0\0\
     \x01\
     \xff\x00\x01\x00\
@@ -52,7 +48,7 @@ const SELF_DENYING: &[u8; 48] = b"\x01\
     \x00\x00\x00\0\0\0\0\0\0\0\x00\0\0\0\0\0\0\0\x01\0\0\0\0\0\0\0\x01\0\0\0\x00";
 
 // One state with both.
-const EITHER_WAY: &[u8; 79] = b"\x01\
+pub const EITHER_WAY: &[u8; 79] = b"\x01\
     \x01\x00x\0\0\0\0\0\0\0\
     \x01\
     \xff\x00\x01\x00\
@@ -61,7 +57,7 @@ const EITHER_WAY: &[u8; 79] = b"\x01\
     \x00\x00\x00\0\0\0\0\0\0\0\x00\0\0\0\0\0\0\0\x01\0\0\0\0\0\0\0\x01\0\0\0\x00";
 
 // One is emitted under in and two; two is emitted under one and not in.
-const RESOLVED_CYCLE: &[u8; 103] = b"\x03\
+pub const RESOLVED_CYCLE: &[u8; 103] = b"\x03\
     \x00\x00in\0\0\0\0\0\0\
     \x01\x00one\0\0\0\0\0\
     \x01\x00two\0\0\0\0\0\
@@ -108,7 +104,7 @@ const LARGE_AMOUNTS: &[u8; 103] = b"\x03\
     \x01\x00\x00\0\0\0\0\0\0\0\x01\0\0\0\0\0\0\0\x00\0\0\0\0\0\0\0\x06\0\0\0\x01";
 
 // The one signal stays unresolved.
-const UNRESOLVED: Expected = Expected::Refused(Fault::Instant(InstantFault::Unresolved(1)));
+const UNRESOLVED: Expected = Err(Fault::Instant(InstantFault::Unresolved(1)));
 
 const CASES: [Case; 10] = [
     Case {
@@ -117,7 +113,7 @@ const CASES: [Case; 10] = [
         mask: 1,
         places: 3,
         room: 22,
-        expected: Expected::Line(b"1: hold sold=45 / 1 1\n"),
+        expected: Ok(b"1: hold sold=45 / 1 1\n"),
     },
     Case {
         name: "silence",
@@ -125,7 +121,7 @@ const CASES: [Case; 10] = [
         mask: 0,
         places: 3,
         room: 22,
-        expected: Expected::Line(b"1: / 0 0\n"),
+        expected: Ok(b"1: / 0 0\n"),
     },
     Case {
         name: "self_supporting",
@@ -157,7 +153,7 @@ const CASES: [Case; 10] = [
         mask: 1,
         places: 3,
         room: 22,
-        expected: Expected::Line(b"1: / 0 0\n"),
+        expected: Ok(b"1: / 0 0\n"),
     },
     Case {
         name: "owner_leaves",
@@ -165,7 +161,7 @@ const CASES: [Case; 10] = [
         mask: 1,
         places: 2,
         room: 22,
-        expected: Expected::Line(b"1: hold / 1 -\n"),
+        expected: Ok(b"1: hold / 1 -\n"),
     },
     Case {
         name: "amounts_combined",
@@ -173,7 +169,7 @@ const CASES: [Case; 10] = [
         mask: 1,
         places: 3,
         room: 40,
-        expected: Expected::Line(b"1: sum=75 most=45 / 0 0\n"),
+        expected: Ok(b"1: sum=75 most=45 / 0 0\n"),
     },
     Case {
         name: "sum_stops",
@@ -181,7 +177,7 @@ const CASES: [Case; 10] = [
         mask: 1,
         places: 3,
         room: 40,
-        expected: Expected::Line(b"1: sum=4294967295 most=4294967295 / 0 0\n"),
+        expected: Ok(b"1: sum=4294967295 most=4294967295 / 0 0\n"),
     },
     Case {
         name: "line_too_short",
@@ -189,7 +185,7 @@ const CASES: [Case; 10] = [
         mask: 1,
         places: 3,
         room: 21,
-        expected: Expected::Refused(Fault::Instant(InstantFault::LongLine(22))),
+        expected: Err(Fault::Instant(InstantFault::LongLine(22))),
     },
 ];
 

@@ -1,36 +1,22 @@
 -- What the laws of the join give of the order, and of the rank. Assumes nothing.
-use Rattle.std.proofs.Common.{◌≡◌, ℕ, ◌<◌, ◌⊎◌, sym, refl, ap, ◌∙◌, subst, inl, inr, ⊎_elim, arith}
-use base.Stored.{Gv, gnil, gnum, gcons, num, Coded}
+use Rattle.std.proofs.Common.{◌≡◌, ◌<◌, ◌⊎◌, sym, refl, ap, ◌∙◌, subst, inl, inr, ⊎_elim}
+use base.Stored.{Gv, gnil, gnum, gcons, Coded}
 use Rattle.std.proofs.lemmas.Bool.{cases_eq}
 use Rattle.fixpoint.specs.System.{Equations, Laws, Below}
-
--- the two parts of a pair of codes
-abbrev first : Gv → Gv
-first gnil = gnil
-first (gnum n) = gnil
-first (gcons a b) = a
-
-abbrev second : Gv → Gv
-second gnil = gnil
-second (gnum n) = gnil
-second (gcons a b) = b
 
 -- codes are equal or they differ
 same_code : (x y : Gv) → (x ≡ y) ⊎ (x ≡ y → ⊥)
 same_code gnil gnil = inl refl
-same_code gnil (gnum n) = inr (λ e. let z : ◌≡◌ {A = ℕ} 0 1 = cc in omega arith)
-same_code gnil (gcons a b) = inr (λ e. let z : ◌≡◌ {A = ℕ} 0 1 = cc in omega arith)
-same_code (gnum m) gnil = inr (λ e. let z : ◌≡◌ {A = ℕ} 0 1 = cc in omega arith)
-same_code (gnum m) (gnum n) = ⊎_elim (λ (e : m ≡ n). inl (ap gnum e)) (λ (d : m ≡ n → ⊥). inr (λ e. d (ap num e))) (cases_eq m n)
-same_code (gnum m) (gcons a b) = inr (λ e. let z : ◌≡◌ {A = ℕ} 0 1 = cc in omega arith)
-same_code (gcons a b) gnil = inr (λ e. let z : ◌≡◌ {A = ℕ} 0 1 = cc in omega arith)
-same_code (gcons a b) (gnum n) = inr (λ e. let z : ◌≡◌ {A = ℕ} 0 1 = cc in omega arith)
+same_code gnil (gnum n) = inr (λ e. cc)
+same_code gnil (gcons a b) = inr (λ e. cc)
+same_code (gnum m) gnil = inr (λ e. cc)
+same_code (gnum m) (gnum n) = ⊎_elim (λ (e : m ≡ n). inl (ap gnum e)) (λ (d : m ≡ n → ⊥). inr (λ e. d cc)) (cases_eq m n)
+same_code (gnum m) (gcons a b) = inr (λ e. cc)
+same_code (gcons a b) gnil = inr (λ e. cc)
+same_code (gcons a b) (gnum n) = inr (λ e. cc)
 same_code (gcons a b) (gcons c d) = ⊎_elim
-    (λ (e : a ≡ c). ⊎_elim
-    (λ (f : b ≡ d). inl (λ k. gcons (e k) (f k)))
-    (λ (n : b ≡ d → ⊥). inr (λ p. n (ap second p)))
-    (same_code b d))
-    (λ (n : a ≡ c → ⊥). inr (λ p. n (ap first p)))
+    (λ (e : a ≡ c). ⊎_elim (λ (f : b ≡ d). inl cc) (λ (n : b ≡ d → ⊥). inr (λ p. n cc)) (same_code b d))
+    (λ (n : a ≡ c → ⊥). inr (λ p. n cc))
     (same_code a c)
 
 -- values that have codes are equal or they differ

@@ -1,22 +1,23 @@
 -- The numbers in a ring from a place on, and what is in a list of numbers. Assumes nothing.
-use Rattle.std.proofs.Common.{◌≡◌, ℕ, zero, suc, ◌+◌, ◌-◌, ◌%◌, ◌<◌, true, false, not, eqb, ◌≢◌, List, [], ◌∷◌, ◌++◌, length, get_or, set, refl, ap, ◌∙◌, ap₂, ⊎_elim, add-one, arith}
+use Rattle.std.proofs.Common.{◌≡◌, ℕ, zero, suc, ◌+◌, ◌-◌, ◌%◌, ◌<◌, true, false, not, eqb, ◌≢◌, List, [], ◌∷◌, ◌++◌, length, get_or, set, drop, Some, refl, ap, ◌∙◌, ap₂, ⊎_elim, add-one, arith}
 use Rattle.std.proofs.lemmas.List.{get_or-set_same, get_or-set_other}
 use Rattle.std.proofs.lemmas.Bool.{and_from, and_parts, or_parts, cases_eq}
 use Rattle.std.proofs.lemmas.Bool.Decides.{nat_tests}
-use Rattle.fixpoint.specs.Arrival.{queue}
+use Rattle.fixpoint.specs.Arrival.{front, queue}
 use Rattle.fixpoint.specs.Numbers.{has, distinct}
 use Rattle.fixpoint.specs.Worklist.{with_number, without_number}
-use Rattle.fixpoint.specs.declared.arrival.ArrivalOrder.{ArrivalOrder}
 use Rattle.fixpoint.specs.Held.{has_append}
-
--- the numbers that wait
-abbrev pub waiting : ArrivalOrder → List ℕ
-waiting w = queue w.ring w.head w.len
 
 -- an empty queue
 pub queue_none : (ring : List ℕ) (head : ℕ) → queue ring head 0 ≡ []
 unfolding queue
 queue_none ring head = refl
+
+-- it is as long as it says
+pub length_queue : (ring : List ℕ) (head n : ℕ) → length (queue ring head n) ≡ n
+unfolding queue
+length_queue ring head zero = refl
+length_queue ring head (suc n) = ap suc (length_queue ring ((head + 1) % 128) n)
 
 -- its front and the others
 pub queue_front : (ring : List ℕ) (head n : ℕ) → (n ≡ 0 → ⊥) → queue ring head n ≡ get_or ring head 0 ∷ queue ring ((head + 1) % 128) (n - 1)
@@ -64,6 +65,11 @@ distinct_push (y ∷ xs) x d h =
     and_from (not (has y (xs ++ (x ∷ [])))) (distinct (xs ++ (x ∷ [])))
     (rw (has_push xs x y) (grind (arith, nat_tests)))
     (distinct_push xs x p.1 q.1)
+
+-- a list with a front is that and the others
+pub front_first : (xs ys : List ℕ) (x : ℕ) → Some x ≡ front xs → ys ≡ drop 1 xs → xs ≡ x ∷ ys
+front_first [] ys x e d = cc
+front_first (y ∷ xs) ys x e d = let same : x ≡ y = cc in let rest : ys ≡ xs = d in cc
 
 -- where no number stands twice, the rest has all but the front
 pub has_rest : (x : ℕ) (xs : List ℕ) → distinct (x ∷ xs) ≡ true → (j : ℕ) → has j xs ≡ without_number x (λ k. has k (x ∷ xs)) j

@@ -2,6 +2,7 @@ pub mod Arrival
 pub mod Latest
 pub mod Marks
 pub mod Numbers
+pub mod Ring
 pub mod Solver
 pub mod System
 pub mod Table

@@ -5,6 +5,7 @@ pub mod arrival;
 pub mod latest;
 pub mod lowest;
 pub mod marks;
+mod ring;
 pub mod solver;
 pub mod system;
 mod table;

@@ -1,5 +1,5 @@
 // Lowest first: one bit for each number; the smallest is taken.
-ghost use Rattle.std.specs.Prelude.{◌≡◌, ℕ, ◌<◌, true, false, IfSome, MatchOption};
+ghost use Rattle.std.specs.Prelude.{◌≡◌, ℕ, ◌<◌, true, false, IfSome};
 ghost use Rattle.fixpoint.specs.Marks.{marked};
 ghost use Rattle.fixpoint.specs.Worklist.{Put, Taken};
 ghost use Rattle.std.proofs.Common.{rules};
@@ -18,21 +18,8 @@ impl LowestFirst {
         ensures { (i : ℕ) → marked result.marks i ≡ false }
     {
         LowestFirst {
-            marks: Marks { low: 0, high: 0 },
+            marks: Marks::new(),
         }
-    }
-}
-
-// The smallest number of a set.
-fn smallest(marks: Marks) -> Option<usize>
-    ensures { MatchOption result ((j : ℕ) → marked marks j ≡ false) (λ i. (marked marks i ≡ true) × ((j : ℕ) → j < i → marked marks j ≡ false)) }
-{
-    if marks.low != 0 {
-        Some(marks.low.trailing_zeros() as usize)
-    } else if marks.high != 0 {
-        Some(64 + marks.high.trailing_zeros() as usize)
-    } else {
-        None
     }
 }
 
@@ -53,7 +40,7 @@ impl Worklist for LowestFirst {
         ensures taken { Taken (λ (w : LowestFirst). marked w.marks) self.old result self.new }
         ensures lowest { IfSome result (λ i. (j : ℕ) → j < i → marked self.old.marks j ≡ false) }
     {
-        let taken = smallest(self.marks);
+        let taken = self.marks.smallest();
         if let Some(i) = taken {
             self.marks = self.marks.without(i);
         }

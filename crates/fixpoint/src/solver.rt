@@ -7,7 +7,7 @@ use crate::system::System;
 use crate::worklist::Worklist;
 
 // The area has too few places: how many are needed.
-#[derive(Clone, Copy)]
+#[derive(Clone, Copy, Debug, PartialEq, Eq)]
 pub struct ShortArea {
     pub needed: usize,
 }
@@ -17,8 +17,8 @@ fn clear<S: System>(system: &S, n: usize, area: &mut [S::Element])
     requires { n ≤ length area.old }
     ensures { ((k : ℕ) → k < n → place (S.equations system.now) area.new k ≡ (S.equations system.now).bottom) × (drop n area.new ≡ drop n area.old) }
 {
-    for i in 0..n {
-        area[i] = system.bottom();
+    for unknown in area[..n].iter_mut() {
+        *unknown = system.bottom();
     }
 }
 
@@ -27,6 +27,7 @@ fn put_all<W: Worklist>(worklist: &mut W, n: usize)
     requires { n ≤ 128 }
     ensures { (j : ℕ) → W.waiting worklist.new j ≡ (W.waiting worklist.old j || nat_lt j n) }
 {
+    // An index loop: the numbers of the unknowns are what is put.
     for i in 0..n {
         worklist.put(i);
     }
@@ -36,6 +37,7 @@ fn put_all<W: Worklist>(worklist: &mut W, n: usize)
 fn put_readers<S: System, W: Worklist>(system: &S, worklist: &mut W, i: usize)
     ensures { (j : ℕ) → W.waiting worklist.new j ≡ (W.waiting worklist.old j || readers (S.equations system.now) i j) }
 {
+    // An index loop: the numbers are what is put, and a filter's state and captures would stand in the invariant too.
     for j in 0..system.count() {
         if system.reads(j, i) {
             worklist.put(j);

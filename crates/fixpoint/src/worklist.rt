@@ -7,6 +7,7 @@ pub trait Worklist {
     ghost waiting: { Self → ℕ → Bool };
 
     // Lets i wait too. Above 127 it answers no, and nothing changes.
+    // A truth value: the rule is that it answers no, and there is nothing else to tell.
     fn put(&mut self, i: usize) -> bool
         ensures { Put waiting self.old i result self.new };
 

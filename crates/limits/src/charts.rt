@@ -1,6 +1,9 @@
 // Chart files for the tests: a small one, byte by byte, and built ones of any size.
 use chart::check::check;
+use chart::fault::ChartFault;
+use chart::view::Chart;
 use std::alloc::{AllocError, Global};
+use std::test::Fail;
 
 // A small chart whose records reach their limits. Each line is a count or a record:
 // at 0 four signals: at 1 the input seatnew1, at 11 the output a, at 21 the local sold, at 31 the output seatnew9;
@@ -19,15 +22,14 @@ pub const SMALL: &[u8; 117] = b"\x04\
     \x00\x1e\x1f\0\0\0\0\0\0\0\x09\0\0\0\0\0\0\0\x02\0\0\0\0\0\0\0\x0c\x01\x02\x03\x04\
     \x02\x00\x00\0\0\0\0\0\0\0\x00\0\0\0\0\0\0\0\x00\0\0\0\0\0\0\0\x00\xff\xff\xff\xff";
 
-// What `fault` answers for an accepted file.
-pub const NONE: (u8, usize) = (0, 0);
+// A file's first fault, if it has one.
+pub fn fault(file: &[u8]) -> Option<ChartFault> {
+    check(file).err()
+}
 
-// Number and detail of a file's first fault.
-pub fn fault(file: &[u8]) -> (u8, usize) {
-    match check(file) {
-        Ok(()) => NONE,
-        Err(fault) => (fault.number(), fault.detail()),
-    }
+// The chart in a file, which has to keep the layout.
+pub fn open(file: &[u8]) -> Result<Chart<'_>, Fail> {
+    Ok(Chart::open(file).ok().ok_or("the file is refused")?)
 }
 
 // An output with a name that no other number has: a0 to a9, b0 to b9 and so on.

@@ -9,11 +9,16 @@ pub fn put_each<W: Worklist>(rt: &impl Abort, worklist: &mut W, numbers: &[usize
     }
 }
 
+// These numbers wait, and no other.
+pub fn check_waiting<W: Worklist>(rt: &impl Abort, worklist: &W, numbers: &[usize]) {
+    for i in 0..=128 {
+        assert_eq!(rt; worklist.waits(i), numbers.contains(&i), "{}", i);
+    }
+}
+
 // Nothing waits, and nothing can be taken.
 pub fn check_idle<W: Worklist>(rt: &impl Abort, worklist: &mut W) {
-    for i in 0..=128 {
-        assert!(rt; !worklist.waits(i), "{}", i);
-    }
+    check_waiting(rt, worklist, &[]);
     assert_eq!(rt; worklist.take(), None);
 }
 

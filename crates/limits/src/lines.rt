@@ -1,27 +1,15 @@
 // Lines: what is printed and what is left out, the room that a line needs, and the longest one.
-use crate::charts::SMALL;
-use crate::instants::HANDOVER;
-use chart::check::check as check_file;
-use chart::view::view;
+use crate::charts::{SMALL, open};
+use crate::instants::{ABSENT, PRESENT};
+use engine::cases::HANDOVER;
 use fixpoint::marks::Marks;
 use reaction::fault::InstantFault;
 use status::configuration::Configuration;
 use status::fired::Fired;
-use status::status::Status;
 use std::alloc::{AllocError, Global};
 use std::process::Abort;
 use std::test::Fail;
 use trace::line::Line;
-
-const PRESENT: Status = Status {
-    present: true,
-    absent: false,
-};
-
-const ABSENT: Status = Status {
-    present: false,
-    absent: true,
-};
 
 // More places than any line needs.
 const PLACES: usize = 1400;
@@ -32,10 +20,8 @@ fn check_refused(rt: &impl Abort, line: &Line<'_, '_, '_>, n: usize) -> Result<(
     if n >= PLACES {
         return Err(Fail::new("no such buffer"));
     }
-    match line.write(&mut buffer[..n]) {
-        Err(InstantFault::LongLine(length)) => assert_eq!(rt; length, n + 1),
-        _ => return Err(Fail::new("the line is not refused")),
-    }
+    let answer = line.write(&mut buffer[..n]);
+    assert_eq!(rt; answer, Err(InstantFault::LongLine(n + 1)));
     assert_eq!(rt; buffer, [b'.'; PLACES]);
     Ok(())
 }
@@ -48,10 +34,7 @@ fn check_written(rt: &impl Abort, line: &Line<'_, '_, '_>, text: &[u8]) -> Resul
         return Err(Fail::new("no such buffer"));
     }
     let part = &mut buffer[..n];
-    match line.write(part) {
-        Ok(length) => assert_eq!(rt; length, n),
-        Err(_) => return Err(Fail::new("the line is refused")),
-    }
+    assert_eq!(rt; line.write(part), Ok(n));
     assert_eq!(rt; &part[..], text);
     Ok(())
 }
@@ -82,22 +65,19 @@ fn the_line_of_a_handover(rt: HostRuntime) -> Result<(), Fail> {
     let after = Configuration {
         states: [Some(1); 32],
     };
-    match check_file(HANDOVER) {
-        Ok(()) => check_line(
-            &rt,
-            &Line {
-                chart: view(HANDOVER),
-                count: 1,
-                statuses: &statuses,
-                fired: Fired {
-                    set: Marks { low: 3, high: 0 },
-                },
-                after: &after,
+    check_line(
+        &rt,
+        &Line {
+            chart: open(HANDOVER)?,
+            count: 1,
+            statuses: &statuses,
+            fired: Fired {
+                set: Marks::new().with(0).with(1),
             },
-            b"1: hold sold=45 / 1 1\n",
-        ),
-        Err(_) => Err(Fail::new("the file is refused")),
-    }
+            after: &after,
+        },
+        b"1: hold sold=45 / 1 1\n",
+    )
 }
 
 // A present input and local and an absent output are left out, a value of 0 is not; an automaton may hold no state.
@@ -107,22 +87,17 @@ fn the_line_of_a_small_chart(rt: HostRuntime) -> Result<(), Fail> {
     let mut after = Configuration { states: [None; 32] };
     after.states[0] = Some(31);
     after.states[2] = Some(0);
-    match check_file(SMALL) {
-        Ok(()) => check_line(
-            &rt,
-            &Line {
-                chart: view(SMALL),
-                count: 20,
-                statuses: &statuses,
-                fired: Fired {
-                    set: Marks { low: 0, high: 0 },
-                },
-                after: &after,
-            },
-            b"20: a=0 / 31 - 0\n",
-        ),
-        Err(_) => Err(Fail::new("the file is refused")),
-    }
+    check_line(
+        &rt,
+        &Line {
+            chart: open(SMALL)?,
+            count: 20,
+            statuses: &statuses,
+            fired: Fired { set: Marks::new() },
+            after: &after,
+        },
+        b"20: a=0 / 31 - 0\n",
+    )
 }
 
 // 64 outputs with combining and names of eight bytes, and 32 automata, three of them with eleven states.
@@ -177,20 +152,17 @@ fn the_longest_line_has_1358_bytes(rt: HostRuntime) -> Result<(), Fail> {
     after.states[1] = Some(10);
     after.states[2] = Some(10);
     let bytes = file.as_slice();
-    match check_file(bytes) {
-        Ok(()) => check_line(
-            &rt,
-            &Line {
-                chart: view(bytes),
-                count: 1_000_000,
-                statuses: &statuses,
-                fired: Fired {
-                    set: Marks { low: 1, high: 0 },
-                },
-                after: &after,
+    check_line(
+        &rt,
+        &Line {
+            chart: open(bytes)?,
+            count: 1_000_000,
+            statuses: &statuses,
+            fired: Fired {
+                set: Marks::new().with(0),
             },
-            text.as_slice(),
-        ),
-        Err(_) => Err(Fail::new("the file is refused")),
-    }
+            after: &after,
+        },
+        text.as_slice(),
+    )
 }

@@ -1,14 +1,14 @@
 // What charts can reach: an area's places, the largest numbers, and what is possible only by itself or behind what is not.
-use crate::charts::{SMALL, build};
-use crate::checks::{check_idle, put_each};
-use crate::instants::{HANDOVER, RESOLVED_CYCLE, SELF_DENYING, SELF_SUPPORTING};
+use crate::charts::{SMALL, build, open};
+use crate::checks::{check_idle, check_waiting, put_each};
 use analysis::reach::reach;
 use analysis::stateset::StateSet;
-use chart::check::check as check_file;
-use chart::view::{Chart, view};
+use chart::view::Chart;
+use engine::cases::{HANDOVER, RESOLVED_CYCLE, SELF_DENYING, SELF_SUPPORTING};
 use fixpoint::arrival::ArrivalOrder;
 use fixpoint::latest::LatestFirst;
 use fixpoint::lowest::LowestFirst;
+use fixpoint::solver::ShortArea;
 use fixpoint::worklist::Worklist;
 use std::process::Abort;
 use std::test::Fail;
@@ -41,11 +41,10 @@ fn check_solved<W: Worklist + Drop>(
     mut worklist: W,
     area: &mut [StateSet],
     expected: &[u32],
-) -> Result<(), Fail> {
-    assert!(rt; reach(chart, area, &mut worklist).is_ok());
+) {
+    assert_eq!(rt; reach(chart, area, &mut worklist), Ok(()));
     check_sets(rt, area, expected);
     check_idle(rt, &mut worklist);
-    Ok(())
 }
 
 // The same under two worklists, first from empty sets and then from those that are there.
@@ -55,14 +54,11 @@ fn check_reach(
     area: &mut [StateSet],
     expected: &[u32],
 ) -> Result<(), Fail> {
-    match check_file(file) {
-        Ok(()) => {
-            check_solved(rt, view(file), ArrivalOrder::new(), area, expected)?;
-            let latest = LatestFirst::new(LowestFirst::new());
-            check_solved(rt, view(file), latest, area, expected)
-        }
-        Err(_) => Err(Fail::new("the file is refused")),
-    }
+    let chart = open(file)?;
+    check_solved(rt, chart, ArrivalOrder::new(), area, expected);
+    let latest = LatestFirst::new(LowestFirst::new());
+    check_solved(rt, chart, latest, area, expected);
+    Ok(())
 }
 
 // With a place too few a chart is refused with the number needed, and sets and worklist stay as they are.
@@ -75,16 +71,11 @@ fn check_refused(
 ) -> Result<(), Fail> {
     let mut worklist = LowestFirst::new();
     put_each(rt, &mut worklist, &[3, 127]);
-    match check_file(file) {
-        Ok(()) => match reach(view(file), area, &mut worklist) {
-            Ok(()) => return Err(Fail::new("a place too few is enough")),
-            Err(short) => assert_eq!(rt; short.needed, needed),
-        },
-        Err(_) => return Err(Fail::new("the file is refused")),
-    }
-    for i in 0..=128 {
-        assert_eq!(rt; worklist.waits(i), i == 3 || i == 127, "{}", i);
-    }
+    assert_eq!(rt;
+        reach(open(file)?, area, &mut worklist),
+        Err(ShortArea { needed })
+    );
+    check_waiting(rt, &worklist, &[3, 127]);
     check_sets(rt, area, sets);
     Ok(())
 }

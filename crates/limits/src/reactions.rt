@@ -1,7 +1,8 @@
 // Whole instants: values, the configuration after them, and the faults.
-use chart::check::check as check_file;
+use crate::charts::open;
+use crate::instants::BOTH;
 use chart::fault::ChartFault;
-use chart::view::{Chart, view};
+use chart::view::Chart;
 use fixpoint::arrival::ArrivalOrder;
 use fixpoint::solver::ShortArea;
 use reaction::combine::combine;
@@ -40,19 +41,10 @@ const IN: u64 = 2;
 
 const LEAVE: u64 = 4;
 
-// The states of the four automata.
-fn states(configuration: &Configuration) -> [Option<u8>; 4] {
-    let [a, b, c, d, ..] = configuration.states;
-    [a, b, c, d]
-}
-
 // The configuration with these states of the four automata.
 fn holding(four: [Option<u8>; 4]) -> Configuration {
     let mut states = [None; 32];
-    states[0] = four[0];
-    states[1] = four[1];
-    states[2] = four[2];
-    states[3] = four[3];
+    states[..4].copy_from_slice(&four);
     Configuration { states }
 }
 
@@ -65,25 +57,20 @@ fn check_step(
     after: [Option<u8>; 4],
     out: Option<u32>,
 ) -> Result<(), Fail> {
-    let mut area = [Status {
-        present: true,
-        absent: true,
-    }; 4];
+    let mut area = [BOTH; 4];
     let configuration = holding(before);
     let mut worklist = ArrivalOrder::new();
-    match react(&chart, &configuration, inputs, &mut worklist, &mut area) {
-        Ok(step) => {
-            assert_eq!(rt; states(&step.after), after);
-            assert_eq!(rt; value(&chart, step.fired, &area, 3), out);
-            Ok(())
-        }
-        Err(_) => Err(Fail::new("the instant is refused")),
-    }
+    let step = react(&chart, &configuration, inputs, &mut worklist, &mut area)
+        .ok()
+        .ok_or("the instant is refused")?;
+    assert_eq!(rt; step.after, holding(after));
+    assert_eq!(rt; value(&chart, step.fired, &area, 3), out);
+    Ok(())
 }
 
 // Where each automaton starts: one whose owner does not start in its owner state holds none.
 fn check_start(rt: &impl Abort, chart: Chart<'_>) {
-    assert_eq!(rt; states(&start(&chart)), [Some(0), Some(0), Some(1), None]);
+    assert_eq!(rt; start(&chart), holding([Some(0), Some(0), Some(1), None]));
 }
 
 // The rules of the next configuration, one after the other.
@@ -111,13 +98,9 @@ fn check_steps(rt: &impl Abort, chart: Chart<'_>) -> Result<(), Fail> {
 
 #[test]
 fn next_configurations(rt: HostRuntime) -> Result<(), Fail> {
-    match check_file(NESTED) {
-        Ok(()) => {
-            check_start(&rt, view(NESTED));
-            check_steps(&rt, view(NESTED))
-        }
-        Err(_) => Err(Fail::new("the file is refused")),
-    }
+    let chart = open(NESTED)?;
+    check_start(&rt, chart);
+    check_steps(&rt, chart)
 }
 
 // A sum stops at the largest number of 32 bits; of no amounts both kinds give 0.
@@ -133,10 +116,7 @@ fn combined_amounts(rt: HostRuntime) {
 
 // One place too few: refused with the number needed, and nothing changes.
 fn check_short(rt: &impl Abort, chart: Chart<'_>) -> Result<(), Fail> {
-    let mut area = [Status {
-        present: true,
-        absent: true,
-    }; 3];
+    let mut area = [BOTH; 3];
     let configuration = start(&chart);
     match react(
         &chart,
@@ -148,18 +128,13 @@ fn check_short(rt: &impl Abort, chart: Chart<'_>) -> Result<(), Fail> {
         Ok(_) => return Err(Fail::new("three places are too few")),
         Err(fault) => assert_eq!(rt; (fault.number(), fault.detail()), (9, 4)),
     }
-    for status in area {
-        assert!(rt; status.present & status.absent);
-    }
+    assert_eq!(rt; area, [BOTH; 3]);
     Ok(())
 }
 
 #[test]
 fn short_areas(rt: HostRuntime) -> Result<(), Fail> {
-    match check_file(NESTED) {
-        Ok(()) => check_short(&rt, view(NESTED)),
-        Err(_) => Err(Fail::new("the file is refused")),
-    }
+    check_short(&rt, open(NESTED)?)
 }
 
 // Layer, number and detail of a fault, and what it prints.

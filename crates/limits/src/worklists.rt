@@ -1,5 +1,5 @@
 // The limits of the worklists: numbers up to 127, 128 numbers at a time, and eight in latest first.
-ghost use Rattle.std.specs.Prelude.{◌<◌, ◌≤◌};
+ghost use Rattle.std.specs.Prelude.{◌<◌, ◌≤◌, length};
 
 use crate::checks::{check_idle, check_order, put_each};
 use fixpoint::arrival::ArrivalOrder;
@@ -56,7 +56,16 @@ fn order_of_all<W: Worklist + Drop>(
     Ok(order)
 }
 
-// The last number that may wait is 127, in each kind of worklist.
+// These are the numbers of these turns, one after the other.
+fn check_turns<I: Iterator<Item = usize>>(rt: &impl Abort, order: &[usize], turns: I)
+    requires { I.can_next turns }
+{
+    for (i, k) in order.iter().zip(turns) {
+        assert_eq!(rt; *i, shuffled(k % 128));
+    }
+}
+
+// The last number that may wait is 127, in each kind of worklist: a call for each, since they are types of their own.
 #[test]
 fn numbers_end_at_127(rt: HostRuntime) {
     check_last_number(&rt, LowestFirst::new());
@@ -70,10 +79,10 @@ fn numbers_end_at_127(rt: HostRuntime) {
 fn all_numbers_come_in_the_order_of_their_kind(rt: HostRuntime) -> Result<(), Fail> {
     let lowest = order_of_all(&rt, LowestFirst::new())?;
     let arrival = order_of_all(&rt, ArrivalOrder::new())?;
-    for k in 0..128 {
-        assert_eq!(rt; lowest[k], k);
-        assert_eq!(rt; arrival[k], shuffled(k));
+    for (k, i) in lowest.iter().enumerate() {
+        assert_eq!(rt; *i, k);
     }
+    check_turns(&rt, &arrival, 0..128);
     Ok(())
 }
 
@@ -81,11 +90,9 @@ fn all_numbers_come_in_the_order_of_their_kind(rt: HostRuntime) -> Result<(), Fa
 #[test]
 fn latest_first_gives_the_newest_eight_first(rt: HostRuntime) -> Result<(), Fail> {
     let order = order_of_all(&rt, LatestFirst::new(LowestFirst::new()))?;
-    for k in 0..8 {
-        assert_eq!(rt; order[k], shuffled(127 - k));
-    }
-    for k in 9..128 {
-        assert!(rt; order[k - 1] < order[k]);
+    check_turns(&rt, &order[..8], (0..128).rev());
+    for pair in order[8..].windows(2) {
+        assert!(rt; pair[0] < pair[1]);
     }
     Ok(())
 }
@@ -94,12 +101,8 @@ fn latest_first_gives_the_newest_eight_first(rt: HostRuntime) -> Result<(), Fail
 #[test]
 fn two_layers_give_the_newest_sixteen_first(rt: HostRuntime) -> Result<(), Fail> {
     let order = order_of_all(&rt, LatestFirst::new(LatestFirst::new(ArrivalOrder::new())))?;
-    for k in 0..16 {
-        assert_eq!(rt; order[k], shuffled(127 - k));
-    }
-    for k in 16..128 {
-        assert_eq!(rt; order[k], shuffled(k - 16));
-    }
+    check_turns(&rt, &order[..16], (0..128).rev());
+    check_turns(&rt, &order[16..], 0..112);
     Ok(())
 }
 

@@ -77,17 +77,18 @@ impl System for Plan {
         if i >= 12 || area.len() < 12 {
             return no_room();
         }
+        let behind = self.doors[i];
         let mut all = only_room(i);
-        for j in 0..12 {
-            if has_room(self.doors[i], j) {
-                all = united(all, area[j]);
+        for (j, rooms) in area[..12].iter().enumerate() {
+            if has_room(behind, j) {
+                all = united(all, *rooms);
             }
         }
         all
     }
 
     fn same(&self, a: RoomSet, b: RoomSet) -> bool {
-        a.bits == b.bits
+        a == b
     }
 
     fn reads(&self, i: usize, j: usize) -> bool {

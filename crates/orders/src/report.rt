@@ -2,30 +2,39 @@
 use crate::plan::{Plan, every_room, has_room};
 use crate::recorder::Recorder;
 use crate::rooms::RoomSet;
-use crate::theatre::NAMES;
+use crate::theatre::ROOMS;
 use fixpoint::solver::solve;
 use fixpoint::worklist::Worklist;
-use std::io;
+use std::{fmt, io};
 
-// The rooms of a set, by name.
-fn print_rooms(rt: &HostRuntime, set: RoomSet) -> io::Result<()> {
-    let mut between = " ";
-    for i in 0..12 {
-        if has_room(set, i) {
-            let name = NAMES[i];
-            print!(rt; "{between}{name}")?;
-            between = ", ";
+// A set of rooms, told by their names.
+#[derive(Drop)]
+struct ByName(RoomSet);
+
+impl fmt::Display for ByName {
+    fn fmt<W: fmt::Write>(&self, f: &mut fmt::Formatter<W>) -> fmt::Result {
+        let mut rooms = ROOMS
+            .iter()
+            .enumerate()
+            .filter(|(i, _)| has_room(self.0, *i));
+        if let Some((_, first)) = rooms.next() {
+            let name = first.name;
+            write!(f, " {name}")?;
         }
+        for (_, room) in rooms {
+            let name = room.name;
+            write!(f, ", {name}")?;
+        }
+        Ok(())
     }
-    println!(rt; "")
 }
 
 // A line for each room: its number, its name and a set of rooms.
 fn print_table(rt: &HostRuntime, sets: &[RoomSet]) -> io::Result<()> {
-    for (i, set) in sets.iter().take(12).enumerate() {
-        let name = NAMES[i];
-        print!(rt; "    {i} {name}:")?;
-        print_rooms(rt, *set)?;
+    for (i, (room, set)) in ROOMS.iter().zip(sets).enumerate() {
+        let name = room.name;
+        let rooms = ByName(*set);
+        println!(rt; "    {i} {name}:{rooms}")?;
     }
     Ok(())
 }
@@ -38,18 +47,6 @@ pub fn print_plan(rt: &HostRuntime, plan: &Plan) -> io::Result<()> {
         "The equation of a room: what can be reached from it is the room itself, and all"
     )?;
     println!(rt; "that can be reached from the rooms behind its doors.")
-}
-
-// The numbers that were taken, in order.
-fn print_taken(rt: &HostRuntime, taken: &Vec<usize>, complete: bool) -> io::Result<()> {
-    print!(rt; "  taken while solving:")?;
-    for i in taken {
-        print!(rt; " {i}")?;
-    }
-    if !complete {
-        print!(rt; " and others, for which memory was short")?;
-    }
-    println!(rt; "")
 }
 
 // Solves the plan with a worklist and an area that were used before, and prints what was taken and what came out.
@@ -70,14 +67,14 @@ pub fn solve_under<W: Worklist + Drop>(
     let mut recorder = Recorder {
         below: worklist,
         taken: Vec::new(rt.alloc()),
-        complete: true,
+        kept: Ok(()),
     };
     let mut area = [every_room(); 14];
     if let Err(short) = solve(plan, &mut recorder, &mut area) {
         let needed = short.needed;
         return println!(rt; "  refused: {needed} places are needed");
     }
-    print_taken(rt, &recorder.taken, recorder.complete)?;
+    println!(rt; "  taken while solving:{recorder}")?;
     println!(rt; "  solution:")?;
     print_table(rt, &area)
 }

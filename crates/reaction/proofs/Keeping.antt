@@ -1,5 +1,5 @@
 -- What holds of each state that is held, from one configuration to the next. Assumes nothing.
-use Rattle.std.proofs.Common.{◌≡◌, ℕ, ◌+◌, ◌<◌, Bool, true, cond, List, [], ◌∷◌, ◌++◌, length, get_or, drop, Some, None, Option, sym, refl, ap, ◌∙◌, subst, ⊎_elim, arith}
+use Rattle.std.proofs.Common.{◌≡◌, ℕ, ◌+◌, ◌<◌, Bool, true, eqb, List, [], ◌∷◌, ◌++◌, length, get_or, drop, Some, None, Option, sym, refl, ap, ◌∙◌, subst, ⊎_elim, arith}
 use Rattle.std.specs.List.{range_with_len, AllByRecursion}
 use Rattle.std.proofs.ByRecursion.{All-map, All-weaker, kept_by_passes}
 use Rattle.std.proofs.lemmas.List.{drop-drop, get_or_append_left, get_or-drop, get_or_past, get_or_push, length-drop, length_push}
@@ -9,8 +9,9 @@ use Rattle.chart.specs.declared.automaton.Automaton.{Automaton}
 use Rattle.chart.specs.declared.automaton.Owner.{Owner}
 use Rattle.chart.specs.declared.transition.Transition.{Transition}
 use Rattle.status.specs.Configuration.{holds, is_state}
-use Rattle.reaction.specs.Next.{automaton, fired_by, gone, moved, next, no_automaton, padded, settled, started, starting, states_of, under}
+use Rattle.reaction.specs.Next.{automaton, fired_by, kept, moved, next, no_automaton, owned, padded, settled, started, starting, state_of, states_of, under}
 use Rattle.reaction.specs.declared.next.Outcome.{Outcome}
+use Rattle.reaction.specs.declared.next.Outcome.TheVariants.{Gone, Stays, Enters}
 use Rattle.reaction.proofs.Moving.{moves_it}
 use Rattle.reaction.proofs.Settling.{states_read}
 
@@ -27,7 +28,7 @@ module _ (c : Decoded) (P : ℕ → ℕ → Type 0) (first : (k : ℕ) → k < l
 
   -- of the state of each outcome
   abbrev OfAll : List Outcome → Type 0
-  OfAll outs = (k : ℕ) → Of k (get_or outs k gone).state
+  OfAll outs = (k : ℕ) → Of k (state_of (get_or outs k Gone))
 
   -- of one state
   of_some : (k s : ℕ) → P k s → Of k (Some s)
@@ -38,28 +39,30 @@ module _ (c : Decoded) (P : ℕ → ℕ → Type 0) (first : (k : ℕ) → k < l
   of_none k s e = absurd (false≢true e)
 
   -- an automaton does what it does where its owner holds the owner state, and otherwise holds none
+  owned_kept : (k state : ℕ) (owner itself start : Outcome) → (is_state (state_of owner) state ≡ true → Of k (state_of itself)) → (is_state (state_of owner) state ≡ true → Of k (state_of start)) → Of k (state_of (owned state owner itself start))
+  owned_kept k state Gone itself start h g = of_none k
+  owned_kept k state (Stays held) itself start h g = cond_both (eqb held state) itself Gone (λ o. Of k (state_of o)) h (λ _. of_none k)
+  owned_kept k state (Enters held) itself start h g = cond_both (eqb held state) start Gone (λ o. Of k (state_of o)) g (λ _. of_none k)
+
   under_kept : (k : ℕ) (o : Option Owner) (before : List Outcome) (itself start : Outcome) → OfAll before
-      → (OfOwner P o → Of k itself.state) → (OfOwner P o → Of k start.state) → Of k (under o before itself start).state
+      → (OfOwner P o → Of k (state_of itself)) → (OfOwner P o → Of k (state_of start)) → Of k (state_of (under o before itself start))
   under_kept k None before itself start all h g = h tt
   under_kept k (Some o) before itself start all h g =
-      let owner = get_or before o.automaton gone in
-      cond_both (is_state owner.state o.state) (cond owner.entered start itself) gone (λ r. Of k r.state)
-      (λ e. let on = all o.automaton o.state e in cond_both owner.entered start itself (λ r. Of k r.state) (λ _. g on) (λ _. h on))
-      (λ _. of_none k)
+      owned_kept k o.state (get_or before o.automaton Gone) itself start (λ e. h (all o.automaton o.state e)) (λ e. g (all o.automaton o.state e))
 
   -- one automaton more
-  all_more : (before : List Outcome) (x : Outcome) → OfAll before → Of (length before) x.state → OfAll (before ++ (x ∷ []))
+  all_more : (before : List Outcome) (x : Outcome) → OfAll before → Of (length before) (state_of x) → OfAll (before ++ (x ∷ []))
   all_more before x all h k =
       let n = length before in
       ⊎_elim
-      (λ (e : k ≡ n). subst (λ o. Of k o.state) (sym (get_or_push before x gone k (sym e))) (subst (λ j. Of j x.state) (sym e) h))
+      (λ (e : k ≡ n). subst (λ o. Of k (state_of o)) (sym (get_or_push before x Gone k (sym e))) (subst (λ j. Of j (state_of x)) (sym e) h))
       (⊎_elim
-      (λ (l : k < n). subst (λ o. Of k o.state) (sym (get_or_append_left before (x ∷ []) gone k l)) (all k))
-      (λ (l : n < k). subst (λ o. Of k o.state) (sym (get_or_past (before ++ (x ∷ [])) k gone (omega (arith, length_push before x)))) (of_none k)))
+      (λ (l : k < n). subst (λ o. Of k (state_of o)) (sym (get_or_append_left before (x ∷ []) Gone k l)) (all k))
+      (λ (l : n < k). subst (λ o. Of k (state_of o)) (sym (get_or_past (before ++ (x ∷ [])) k Gone (omega (arith, length_push before x)))) (of_none k)))
       (cases_order k n)
 
   -- what the automata do by themselves keeps the property
-  module _ (itself : ℕ → Outcome) (keeps : (k : ℕ) → k < length c.automata → OfOwner P (automaton c k).owner → Of k (itself k).state) where
+  module _ (itself : ℕ → Outcome) (keeps : (k : ℕ) → k < length c.automata → OfOwner P (automaton c k).owner → Of k (state_of (itself k))) where
     -- so do all automata, owners first
     settled_kept : (later : List Automaton) (before : List Outcome) → drop (length before) c.automata ≡ later → OfAll before → OfAll (settled itself later before)
     settled_kept [] before e all = all
@@ -84,9 +87,13 @@ module _ (c : Decoded) (P : ℕ → ℕ → Type 0) (first : (k : ℕ) → k < l
   starting_kept = states_kept (λ k. started (automaton c k)) (λ k l on. of_some k (automaton c k).first (first k l on))
 
   -- an automaton moves to a target, or stays
-  moved_kept : (k : ℕ) (state : Option ℕ) → Of k state → (ts : List Transition) → AllByRecursion (λ t. P k t.target) ts → Of k (moved ts state).state
-  moved_kept k state held [] h = held
-  moved_kept k state held (t ∷ ts) h = of_some k t.target h.0
+  kept_kept : (k : ℕ) (held : Option ℕ) → Of k held → Of k (state_of (kept held))
+  kept_kept k None h = h
+  kept_kept k (Some s) h = h
+
+  moved_kept : (k : ℕ) (held : Option ℕ) → Of k held → (ts : List Transition) → AllByRecursion (λ t. P k t.target) ts → Of k (state_of (moved ts held))
+  moved_kept k held h [] all = kept_kept k held h
+  moved_kept k held h (t ∷ ts) all = of_some k t.target all.0
 
   -- it holds of each state that is held next, if it holds of the states before and of the targets of the fired transitions
   pub next_kept : (fired : ℕ → Bool) (states : List (Option ℕ)) → ((k s : ℕ) → holds states k s ≡ true → P k s)

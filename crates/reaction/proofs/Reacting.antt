@@ -20,6 +20,7 @@ use Rattle.status.specs.declared.status.Status.{Status}
 use Rattle.reaction.specs.Next.{next, padded}
 use Rattle.reaction.specs.React.{Agrees, Reacts, decided, react, reaction, undecided, unresolved_in}
 use Rattle.reaction.specs.Value.{amounts_of, signal_value, value_of, values}
+use Rattle.reaction.specs.declared.fault.Fault.{Fault}
 use Rattle.reaction.specs.declared.fault.Fault.TheVariants.{Instant}
 use Rattle.reaction.specs.declared.fault.InstantFault.TheVariants.{Unresolved}
 use Rattle.reaction.specs.declared.react.Step.{Step}
@@ -95,12 +96,12 @@ module _ (c : Decoded) (states : List (Option ℕ)) (mask : ℕ) (few : length c
       (refl, (under, values_front c states after (marked step.fired.set) ∙ ap (λ fired. values c fired xs) set, goes ∙ ap (λ fired. padded (next c fired states)) set))
 
 -- the same of a system that has the chart's bytes, the configuration and the mask
-module _ (from bytes : List ℕ) (p q : Configuration) (mask inputs : ℕ) (same : (from ≡ bytes) × (p ≡ q) × (mask ≡ inputs)) where
+module _ {from bytes : List ℕ} {p q : Configuration} {mask inputs : ℕ} (same : (from ≡ bytes) × (p ≡ q) × (mask ≡ inputs)) where
   -- what is known of the system is known of the chart
   of_chart : (P : List ℕ → List (Option ℕ) → ℕ → Type 0) → P from p.states mask → P bytes q.states inputs
   of_chart P h = subst (λ b. P b q.states inputs) same.0 (subst (λ (r : Configuration). P from r.states inputs) same.1 (subst (λ n. P from p.states n) same.2 h))
 
-  module _ (layout : ∥ Layout bytes ∥₁) (before after : List Status) (waiting : ℕ → Bool) (m : ℕ) (small : m < 2 ^ 64) (r : Resolved (decode from) p.states mask before after waiting m) where
+  module _ (layout : ∥ Layout bytes ∥₁) {before after : List Status} {waiting : ℕ → Bool} {m : ℕ} (small : m < 2 ^ 64) (r : Resolved (decode from) p.states mask before after waiting m) where
     known : Resolved (decode bytes) q.states inputs before after waiting m
     known = of_chart (λ b states n. Resolved (decode b) states n before after waiting m) r
 
@@ -108,11 +109,11 @@ module _ (from bytes : List ℕ) (p q : Configuration) (mask inputs : ℕ) (same
     pub enough : length (decode bytes).signals ≤ length after
     enough = places_enough (decode bytes) q.states inputs (few_signals bytes layout) before after waiting m small known
 
-    pub reacts_no : (m ≡ 0 → ⊥) → Reacts (decode bytes) q.states inputs before after waiting (Err (Instant (Unresolved m)))
-    reacts_no some = record {
+    pub reacts_no : (m ≡ 0 → ⊥) → {fault : Fault} → fault ≡ Instant (Unresolved m) → Reacts (decode bytes) q.states inputs before after waiting (Err fault)
+    reacts_no some is = subst (λ e. Reacts (decode bytes) q.states inputs before after waiting (Err e)) (sym is) (record {
       resolved = resolved_all (decode bytes) q.states inputs (few_signals bytes layout) before after waiting m small known;
       agrees = agrees_no (decode bytes) q.states inputs (few_signals bytes layout) before after waiting m small known some;
-    }
+    })
 
     pub reacts_yes : (step : Step) → m ≡ 0 → FiredUnder (decode from) p.states after (marked step.fired.set) → step.after.states ≡ padded (next (decode bytes) (marked step.fired.set) q.states)
         → Reacts (decode bytes) q.states inputs before after waiting (Ok step)

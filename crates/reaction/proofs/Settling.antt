@@ -1,73 +1,44 @@
 -- The configuration, owners first. Assumes nothing.
-use Rattle.std.proofs.Common.{◌≡◌, ℕ, zero, suc, ◌+◌, ◌-◌, ◌<◌, ◌≤◌, List, [], ◌∷◌, ◌++◌, map, length, get_or, take, drop, set, replicate, Some, None, Option, sym, refl, ap, ◌∙◌, ⊎_elim, arith}
-use Rattle.std.specs.List.{slice_get}
-use Rattle.std.proofs.lemmas.List.{append_assoc, at_drop_all, at_drop_more, get_or_append_left, get_or-append_right, get_or_past, length-map, map_more, length_push, length-take-le, set_at, take_more_set}
-use Rattle.std.proofs.lemmas.Option.{slice_get-get_or, slice_get_past}
+use Rattle.std.proofs.Common.{◌≡◌, ℕ, zero, suc, ◌+◌, ◌-◌, ◌<◌, ◌≤◌, List, [], ◌∷◌, ◌++◌, map, length, get_or, drop, replicate, Some, None, Option, sym, refl, ap, ◌∙◌, subst, ⊎_elim, arith}
+use Rattle.std.specs.Array.{IsFromFnResult, IsFromFnResultFrom}
+use Rattle.std.specs.List.{range_with_len, slice_get}
+use denote.Param.Members.{Mut, Called}
+use Rattle.std.proofs.lemmas.List.{length-append, length-replicate, get_or_append_left, get_or-append_right, get_or_past, length-map, length_push}
+use Rattle.std.proofs.lemmas.List.FromFn.{fill_by_all}
+use Rattle.std.proofs.Math.ListN.{drop_of_length-le, get_or-map}
+use Rattle.std.proofs.lemmas.Option.{get_or_from_slice_get, slice_get_within}
 use Rattle.std.proofs.lemmas.Bool.{cases_lt}
 use Rattle.chart.specs.Decoded.{Decoded}
 use Rattle.chart.specs.declared.automaton.Automaton.{Automaton}
-use Rattle.reaction.specs.Next.{gone, no_automaton, padded, settled, started, states_of, under}
+use Rattle.chart.proofs.Decoding.{left_from}
+use Rattle.reaction.specs.Next.{Gives, automaton, no_automaton, padded, settled, started, state_of, under}
 use Rattle.reaction.specs.declared.next.Outcome.{Outcome}
+use Rattle.reaction.specs.declared.next.Outcome.TheVariants.{Gone}
 
--- an element that is there, and one that is not
-pub nth_some : {X : Type 0} (xs : List X) (k : ℕ) (d x : X) → Some x ≡ slice_get xs k → x ≡ get_or xs k d
-nth_some xs k d x e = ⊎_elim
-    (λ (l : k < length xs). let h = slice_get-get_or xs k d l in cc)
-    (λ (l : length xs ≤ k). let h = slice_get_past xs k l in let z : ◌≡◌ {A = ℕ} 0 1 = cc in absurd (omega arith))
-    (cases_lt k (length xs))
+-- an automaton that is there has a number below their count
+pub automaton_inside : (c : Decoded) (k : ℕ) {a : Automaton} → Some a ≡ slice_get c.automata k → k < length c.automata
+automaton_inside c k {a} here = slice_get_within c.automata k a (sym here)
 
-pub nth_none : {X : Type 0} (xs : List X) (k : ℕ) (d : X) → None ≡ slice_get xs k → length xs ≤ k
-nth_none xs k d e = ⊎_elim
-    (λ (l : k < length xs). let h = slice_get-get_or xs k d l in let z : ◌≡◌ {A = ℕ} 0 1 = cc in absurd (omega arith))
-    (λ (l : length xs ≤ k). l)
-    (cases_lt k (length xs))
-
-module _ (itself : ℕ → Outcome) where
-  -- one automaton more
-  pub settled_more : (all : List Automaton) (outs : List Outcome) (k : ℕ) (v : Outcome) → k < length all → length all ≤ length outs
-      → v ≡ under (get_or all k no_automaton).owner (take k outs) (itself k) (started (get_or all k no_automaton))
-      → settled itself (drop k all) (take k outs) ≡ settled itself all [] → settled itself (drop (k + 1) all) (take (k + 1) (set outs k v)) ≡ settled itself all []
-  settled_more all outs k v l fits is before =
-      let a = get_or all k no_automaton in
-      let long : length (take k outs) ≡ k = length-take-le k outs (omega arith) in
-      let here : v ≡ under a.owner (take k outs) (itself (length (take k outs))) (started a) = is ∙ ap (λ n. under a.owner (take k outs) (itself n) (started a)) (sym long) in
-      ap (settled itself (drop (k + 1) all)) (take_more_set outs k v (omega arith) ∙ ap (λ o. take k outs ++ (o ∷ [])) here)
-      ∙ sym (at_drop_more (λ later. settled itself later (take k outs)) all k no_automaton l)
+-- what becomes of the first automata, where outs has it of those before the next
+module _ (c : Decoded) (itself : ℕ → Outcome) (outs : List Outcome) (before : settled itself (drop (length outs) c.automata) outs ≡ settled itself c.automata []) where
+  -- one automaton more: a is the next, y what it does by itself, x what becomes of it
+  pub settled_more : (known : ℕ → Automaton → Outcome → Type 0) → Gives c known itself → (n : ℕ) (a : Automaton) (x y : Outcome) (more : List Outcome) → n ≡ length outs
+      → Some a ≡ slice_get c.automata (length outs) → known n a y → x ≡ under a.owner outs y (started a) → more ≡ outs ++ (x ∷ []) → settled itself (drop (length more) c.automata) more ≡ settled itself c.automata []
+  settled_more known gives n a x y more e here does is push =
+      let k = length outs in
+      let inside = automaton_inside c k here in
+      let same : a ≡ automaton c k = sym (get_or_from_slice_get c.automata k a no_automaton (sym here)) in
+      let own : y ≡ itself k = gives k y inside (subst (λ b. known k b y) same (subst (λ m. known m a y) e does)) in
+      let becomes : x ≡ under a.owner outs (itself k) (started a) = is ∙ ap (λ o. under a.owner outs o (started a)) own in
+      ap (λ m. settled itself (drop (length m) c.automata) m) push
+      ∙ ap (λ m. settled itself (drop m c.automata) (outs ++ (x ∷ []))) (length_push outs x)
+      ∙ ap (λ o. settled itself (drop (k + 1) c.automata) (outs ++ (o ∷ []))) becomes
+      ∙ sym (ap (λ later. settled itself later outs) (left_from c.automata k a (sym here)))
       ∙ before
 
   -- all automata
-  pub settled_all : (all : List Automaton) (outs : List Outcome) (k : ℕ) → k ≡ length all → settled itself (drop k all) (take k outs) ≡ settled itself all [] → take (length all) outs ≡ settled itself all []
-  settled_all all outs k e before = ap (λ n. take n outs) (sym e) ∙ sym (at_drop_all (λ later. settled itself later (take k outs)) all k (omega arith)) ∙ before
-
--- only what the automata do by themselves counts
-settled_same : (f g : ℕ → Outcome) (all : List Automaton) (before : List Outcome) → ((k : ℕ) → k < length before + length all → f k ≡ g k) → settled f all before ≡ settled g all before
-settled_same f g [] before h = refl
-settled_same f g (a ∷ later) before h =
-    let n = length before in
-    let longer = length_push before (under a.owner before (g n) (started a)) in
-    ap (λ o. settled f later (before ++ (under a.owner before o (started a) ∷ []))) (h n (omega arith))
-    ∙ settled_same f g later (before ++ (under a.owner before (g n) (started a) ∷ [])) (λ k l. h k (omega arith))
-
-pub states_same : (c : Decoded) (f g : ℕ → Outcome) → ((k : ℕ) → k < length c.automata → f k ≡ g k) → padded (states_of c f) ≡ padded (states_of c g)
-states_same c f g h = ap (λ (outs : List Outcome). padded (map (λ o. o.state) outs)) (settled_same f g c.automata [] (λ k l. h k (omega arith)))
-
--- one place more of a configuration
-pub padded_more : (states : List (Option ℕ)) (k : ℕ) (y : Option ℕ) → length states ≡ k → k < 32 → set (padded states) k y ≡ padded (states ++ (y ∷ []))
-padded_more states k y e l =
-    let some : 32 - length states ≡ suc (32 - (k + 1)) = omega arith in
-    let less : 32 - (k + 1) ≡ 32 - length (states ++ (y ∷ [])) = omega (arith, length_push states y) in
-    ap (λ m. set (states ++ replicate m None) k y) some
-    ∙ set_at states None (replicate (32 - (k + 1)) None) y k e
-    ∙ sym (append_assoc states (y ∷ []) (replicate (32 - (k + 1)) None))
-    ∙ ap (λ m. (states ++ (y ∷ [])) ++ replicate m None) less
-
-pub states_more : (outs : List Outcome) (k : ℕ) (states : List (Option ℕ)) → k < length outs → length outs ≤ 32
-    → states ≡ padded (map (λ o. o.state) (take k outs)) → set states k (get_or outs k gone).state ≡ padded (map (λ o. o.state) (take (k + 1) outs))
-states_more outs k states l few before =
-    let long : length (map (λ (o : Outcome). o.state) (take k outs)) ≡ k = length-map (take k outs) (λ o. o.state) ∙ length-take-le k outs (omega arith) in
-    ap (λ xs. set xs k (get_or outs k gone).state) before
-    ∙ padded_more (map (λ o. o.state) (take k outs)) k (get_or outs k gone).state long (omega arith)
-    ∙ ap padded (sym (map_more (λ o. o.state) outs k gone l))
+  pub settled_all : length outs ≡ length c.automata → outs ≡ settled itself c.automata []
+  settled_all long = sym (ap (λ later. settled itself later outs) (drop_of_length-le c.automata (omega (arith, long)))) ∙ before
 
 -- a list of defaults reads as the default everywhere
 pub getD_defaults : {A : Type 0} (n k : ℕ) (d : A) → get_or (replicate n d) k d ≡ d
@@ -83,11 +54,30 @@ padded_read states k = ⊎_elim
     ∙ sym (get_or_past states k None l))
     (cases_lt k (length states))
 
+-- an array that is made of a function of the index
+from_calls : {F B : Type 0} (g : Mut F (ℕ × Unit {0}) B) (f : F) (h : ℕ → B) → ((k : ℕ) (y : B) (q : F) → Called g f (k, tt) y q → (q ≡ f) × (y ≡ h k)) → (d : B) (ys : List B) (n i k : ℕ)
+    → IsFromFnResultFrom g f ys i n → i ≤ k → k < i + n → get_or ys k d ≡ h k
+from_calls g f h each d ys zero i k made l u = absurd (omega arith)
+from_calls g f h each d ys (suc n) i k (q, y, here, call, rest) l u =
+    let known = each i y q call in
+    ⊎_elim
+    (λ (m : i < k). from_calls g f h each d ys n (i + 1) k (subst (λ p. IsFromFnResultFrom g p ys (i + 1) n) known.0 rest) (omega arith) (omega arith))
+    (λ (m : k ≤ i). let same : k ≡ i = omega arith in ap (λ j. get_or ys j d) same ∙ here.1 d ∙ known.1 ∙ ap h (sym same))
+    (cases_lt i k)
+
+pub array_of : {F B : Type 0} (g : Mut F (ℕ × Unit {0}) B) (f : F) (h : ℕ → B) (n : ℕ) (ys : List B) → IsFromFnResult g f ys n → ((k : ℕ) (y : B) (q : F) → Called g f (k, tt) y q → (q ≡ f) × (y ≡ h k)) → (d : B)
+    → ys ≡ map h (range_with_len 0 n)
+array_of g f h n ys made each d = fill_by_all h ys n d made.long (λ k l. from_calls g f h each d ys n 0 k made.each (omega arith) (omega arith))
+
 -- the state that an automaton holds is that of its outcome
-pub states_read : (outs : List Outcome) (k : ℕ) → get_or (padded (map (λ o. o.state) outs)) k None ≡ (get_or outs k gone).state
-states_read outs k = padded_read (map (λ o. o.state) outs) k ∙ go outs k
-  where
-    go : (outs : List Outcome) (k : ℕ) → get_or (map (λ (o : Outcome). o.state) outs) k None ≡ (get_or outs k gone).state
-    go [] k = refl
-    go (o ∷ outs) zero = refl
-    go (o ∷ outs) (suc k) = go outs k
+pub states_read : (outs : List Outcome) (k : ℕ) → get_or (padded (map state_of outs)) k None ≡ state_of (get_or outs k Gone)
+states_read outs k = padded_read (map state_of outs) k ∙ get_or-map state_of outs k Gone
+
+-- the 32 places of a configuration, one after the other
+pub padded_places : (outs : List Outcome) → length outs ≤ 32 → padded (map state_of outs) ≡ map (λ k. state_of (get_or outs k Gone)) (range_with_len 0 32)
+padded_places outs few =
+    let states : List (Option ℕ) = map state_of outs in
+    let none : Option ℕ = None in
+    let others : List (Option ℕ) = replicate (32 - length states) none in
+    let long : length (padded states) ≡ 32 = length-append states others ∙ omega (arith, length-map outs state_of, length-replicate (32 - length states) none) in
+    fill_by_all (λ k. state_of (get_or outs k Gone)) (padded states) 32 None long (λ k _. states_read outs k)

@@ -25,7 +25,7 @@ pub trait Combining {
     ghost lawful: { (k : Self) → Lawful (combination k) };
 }
 
-// The value of all amounts; any order of them gives the same.
+// The value of all amounts; any order of them gives the same. That it is one loop over the slice is a rule of the project.
 pub fn combine<K: Combining>(kind: &K, amounts: &[u32]) -> K::Value
     ensures value { result ≡ combined (K.combination kind.now) amounts.now }
     ensures any_order { (others : List ℕ) → IsPermutation amounts.now others → result ≡ combined (K.combination kind.now) others }

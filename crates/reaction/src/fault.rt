@@ -8,7 +8,7 @@ use fixpoint::solver::ShortArea;
 use std::fmt;
 
 // Why an instant is refused.
-#[derive(Clone, Copy)]
+#[derive(Clone, Copy, Debug, PartialEq, Eq)]
 pub enum InstantFault {
     // The mask has bits that are not inputs: those bits.
     NotInputs(u64),
@@ -21,7 +21,7 @@ pub enum InstantFault {
 }
 
 // A fault of any layer.
-#[derive(Clone, Copy)]
+#[derive(Clone, Copy, Debug, PartialEq, Eq)]
 pub enum Fault {
     // The file is no chart.
     Chart(ChartFault),
@@ -56,6 +56,7 @@ impl From<ShortArea> for Fault {
 }
 
 impl InstantFault {
+    // A match: the numbers are a table of their own, over two layers, and no enum has them in its order.
     fn number(&self) -> u8
         ensures { result ≡ instant_number self.now }
     {
@@ -116,8 +117,6 @@ impl fmt::Display for Fault {
     ghost output = { λ x. Some (text_of x) };
 
     fn fmt<W: fmt::Write>(&self, f: &mut fmt::Formatter<W>) -> fmt::Result {
-        let number = self.number();
-        let detail = self.detail();
-        write!(f, "{number} {detail}")
+        write!(f, "{} {}", self.number(), self.detail())
     }
 }

@@ -1,4 +1,6 @@
 // The two combining kinds of a chart.
+#![tactic(auto, using(crate::specs::Totals::same_total))]
+
 ghost use Rattle.std.specs.Prelude.{◌≡◌};
 ghost use Rattle.reaction.specs.Kinds.{largest, sum};
 ghost use Rattle.std.proofs.Common.{arith, rules};

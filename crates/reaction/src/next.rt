@@ -1,78 +1,69 @@
 // The configuration after an instant, and the one that a chart starts in.
-ghost use Rattle.std.specs.Prelude.{◌≡◌, ℕ, ◌<◌, ◌≤◌, [], map, length, get_or, take, None, slice_index_or};
-ghost use Rattle.chart.specs.Decoded.{decode};
+ghost use Rattle.std.specs.Prelude.{◌≡◌, ℕ, ◌≤◌, map, length, None, slice_get, slice_index_or};
+ghost use Rattle.chart.specs.Views.{decoded};
 ghost use Rattle.fixpoint.specs.Marks.{marked};
-ghost use Rattle.status.specs.Configuration.{is_state};
-ghost use Rattle.reaction.specs.Next.{automaton, became, fired_by, gone, moved, next, padded, settled, started, starting, states_of, under};
+ghost use Rattle.reaction.specs.Next.{Gives, fired_by, kept, moved, next, padded, state_of, starting, states_of, under};
+ghost use Rattle.reaction.specs.declared.next.Outcome.TheVariants.{Gone};
 
+use arrayvec::ArrayVec;
 use chart::automaton::{Automaton, Owner};
+use chart::transition::Transition;
 use chart::view::Chart;
 use status::configuration::Configuration;
 use status::fired::Fired;
+use std::array;
 
-// What becomes of an automaton in an instant: the state that it then holds, and whether it fired or was started.
-#[derive(Clone, Copy)]
-struct Outcome {
-    state: Option<u8>,
-    entered: bool,
+// What becomes of an automaton in an instant.
+#[derive(Clone, Copy, Default)]
+enum Outcome {
+    // It holds no state.
+    #[default]
+    Gone,
+    // It holds the state that it held before.
+    Stays(u8),
+    // It fired or was started, and holds that state.
+    Enters(u8),
 }
 
-const GONE: Outcome = Outcome {
-    state: None,
-    entered: false,
-};
+impl Outcome {
+    // An automaton that does nothing, given the state that it holds.
+    fn kept(held: Option<u8>) -> Outcome
+        ensures { result ≡ kept held }
+    {
+        held.map_or(Outcome::Gone, Outcome::Stays)
+    }
 
-// An automaton that then holds a state or none, and has entered it or not.
-fn became(state: Option<u8>, entered: bool) -> Outcome
-    ensures { result ≡ became state entered }
-{
-    Outcome { state, entered }
+    // The state that the automaton then holds.
+    fn state(&self) -> Option<u8>
+        ensures { result ≡ state_of self.now }
+    {
+        match *self {
+            Outcome::Gone => None,
+            Outcome::Stays(state) | Outcome::Enters(state) => Some(state),
+        }
+    }
 }
 
-// An automaton that is started.
-fn start_of(automaton: Automaton) -> Outcome
-    ensures { result ≡ started automaton }
+// The first transition of automaton k that fired.
+// A chart and what fired stay two parameters, here and below: `next` and `value` are given them apart.
+fn fired_of(chart: &Chart, fired: Fired, k: usize) -> Option<Transition>
+    ensures { result ≡ slice_get (fired_by (decoded chart.now) (marked fired.set) k) 0 }
 {
-    became(Some(automaton.first), true)
+    chart
+        .all_transitions()
+        .enumerate()
+        .find(|(i, transition)| fired.has(*i) & (usize::from(transition.automaton) == k))
+        .map(|(_, transition)| transition)
 }
 
 // What automaton k does by itself: it moves by its fired transition, or stays.
-fn move_of(chart: &Chart, fired: Fired, held: Option<u8>, k: usize) -> Outcome
-    ensures { result ≡ moved (fired_by (decode chart.now.bytes.now) (marked fired.set) k) held }
+fn move_of(chart: &Chart, fired: Fired, before: &Configuration, k: usize) -> Outcome
+    ensures { result ≡ moved (fired_by (decoded chart.now) (marked fired.set) k) (slice_index_or before.now.states k None) }
 {
-    for i in 0..chart.transitions() {
-        if fired.has(i) & (usize::from(chart.automaton_of(i).unwrap_or(0)) == k) {
-            return became(Some(chart.target(i).unwrap_or(0)), true);
-        }
+    match fired_of(chart, fired, k) {
+        Some(transition) => Outcome::Enters(transition.target),
+        None => Outcome::kept(before.states.get(k).copied().flatten()),
     }
-    became(held, false)
-}
-
-// How many automata there are; at most 32.
-fn count(chart: &Chart) -> usize
-    ensures { (result ≡ length (decode chart.now.bytes.now).automata) × (result ≤ 32) }
-{
-    chart.automata()
-}
-
-// Whether that state is held.
-fn is_state(held: Option<u8>, state: u8) -> bool
-    ensures { result ≡ is_state held state }
-{
-    match held {
-        Some(x) => x == state,
-        None => false,
-    }
-}
-
-// What became of automaton k.
-fn outcome_at(outcomes: &[Outcome], k: usize) -> Outcome
-    ensures { result ≡ slice_index_or outcomes.now k gone }
-{
-    if k < outcomes.len() {
-        return outcomes[k];
-    }
-    GONE
 }
 
 // What becomes of an automaton under its owner, given what became of the automata before it.
@@ -82,98 +73,55 @@ fn under(owner: Option<Owner>, before: &[Outcome], itself: Outcome, start: Outco
     let Some(owner) = owner else {
         return itself;
     };
-    let above = outcome_at(before, usize::from(owner.automaton));
-    if !is_state(above.state, owner.state) {
-        return GONE;
-    }
-    if above.entered { start } else { itself }
-}
-
-// What becomes of automaton k, given what became of the automata before it and what it does by itself.
-fn outcome_of(chart: &Chart, before: &[Outcome], itself: Outcome, k: usize) -> Outcome
-    ensures { result ≡ under (automaton (decode chart.now.bytes.now) k).owner before.now itself (started (automaton (decode chart.now.bytes.now) k)) }
-{
-    match chart.automaton(k) {
-        Some(automaton) => under(automaton.owner, before, itself, start_of(automaton)),
-        None => itself,
+    match before.get(usize::from(owner.automaton)).copied() {
+        Some(Outcome::Stays(state)) if state == owner.state => itself,
+        Some(Outcome::Enters(state)) if state == owner.state => start,
+        _ => Outcome::Gone,
     }
 }
 
-// What becomes of the automata, owners first, in the place of what each does by itself.
-fn settle(chart: &Chart, outcomes: &mut [Outcome])
-    requires { length (decode chart.now.bytes.now).automata ≤ length outcomes.old }
-    ensures { take (length (decode chart.now.bytes.now).automata) outcomes.new ≡ settled (λ k. get_or outcomes.old k gone) (decode chart.now.bytes.now).automata [] }
+// The state that automaton k then holds; an automaton beyond these holds none.
+fn state_at(outcomes: &[Outcome], k: usize) -> Option<u8>
+    ensures { result ≡ state_of (slice_index_or outcomes.now k Gone) }
 {
-    for k in 0..chart.automata() {
-        let itself = outcomes[k];
-        outcomes[k] = outcome_of(chart, &outcomes[..k], itself, k);
-    }
+    outcomes.get(k)?.state()
 }
 
 // The configuration with the states of these automata; the places beyond them hold none.
 fn configuration_of(outcomes: &[Outcome]) -> Configuration
     requires { length outcomes.now ≤ 32 }
-    ensures { result.states ≡ padded (map (λ o. o.state) outcomes.now) }
+    ensures { result.states ≡ padded (map state_of outcomes.now) }
 {
-    let mut states = [None; 32];
-    for k in 0..outcomes.len() {
-        states[k] = outcomes[k].state;
-    }
-    Configuration { states }
-}
-
-// What each automaton does by itself in an instant.
-fn moves(chart: &Chart, fired: Fired, before: &Configuration) -> [Outcome; 32]
-    ensures { (k : ℕ) → k < length (decode chart.now.bytes.now).automata → slice_index_or result k gone ≡ moved (fired_by (decode chart.now.bytes.now) (marked fired.set) k) (slice_index_or before.now.states k None) }
-{
-    let mut outcomes = [GONE; 32];
-    for k in 0..count(chart) {
-        outcomes[k] = move_of(chart, fired, before.states[k], k);
-    }
-    outcomes
-}
-
-// Automaton k, started.
-fn start_at(chart: &Chart, k: usize) -> Outcome
-    requires { k < length (decode chart.now.bytes.now).automata }
-    ensures { result ≡ started (automaton (decode chart.now.bytes.now) k) }
-{
-    match chart.automaton(k) {
-        Some(automaton) => start_of(automaton),
-        None => GONE,
+    Configuration {
+        states: array::from_fn(|k| state_at(outcomes, k)),
     }
 }
 
-// What each automaton does where all start.
-fn starts(chart: &Chart) -> [Outcome; 32]
-    ensures { (k : ℕ) → k < length (decode chart.now.bytes.now).automata → slice_index_or result k gone ≡ started (automaton (decode chart.now.bytes.now) k) }
+// The configuration that comes of what each automaton does by itself, owners first.
+fn configured<F: Fn(usize, Automaton) -> Outcome>(chart: &Chart, itself: F) -> Configuration
+    requires { F.IsAlwaysCallable itself }
+    ensures { (does : ℕ → Outcome) → Gives (decoded chart.now) (F.post itself) does → result.states ≡ padded (states_of (decoded chart.now) does) }
 {
-    let mut outcomes = [GONE; 32];
-    for k in 0..count(chart) {
-        outcomes[k] = start_at(chart, k);
+    let mut outcomes: ArrayVec<Outcome, 32> = ArrayVec::new();
+    for (k, automaton) in chart.all_automata().enumerate() {
+        let by_itself = itself(k, automaton);
+        let start = Outcome::Enters(automaton.first);
+        let outcome = under(automaton.owner, &outcomes, by_itself, start);
+        outcomes.push(outcome);
     }
-    outcomes
-}
-
-// The configuration that comes of what each automaton does by itself.
-fn configured(chart: &Chart, itself: [Outcome; 32]) -> Configuration
-    ensures { result.states ≡ padded (states_of (decode chart.now.bytes.now) (λ k. get_or itself k gone)) }
-{
-    let mut outcomes = itself;
-    settle(chart, &mut outcomes);
-    configuration_of(&outcomes[..count(chart)])
+    configuration_of(&outcomes)
 }
 
 // The configuration after an instant in which these transitions fired.
 pub fn next(chart: &Chart, fired: Fired, before: &Configuration) -> Configuration
-    ensures { result.states ≡ padded (next (decode chart.now.bytes.now) (marked fired.set) before.now.states) }
+    ensures { result.states ≡ padded (next (decoded chart.now) (marked fired.set) before.now.states) }
 {
-    configured(chart, moves(chart, fired, before))
+    configured(chart, |k, _| move_of(chart, fired, before, k))
 }
 
 // The configuration that a chart starts in.
 pub fn start(chart: &Chart) -> Configuration
-    ensures { result.states ≡ padded (starting (decode chart.now.bytes.now)) }
+    ensures { result.states ≡ padded (starting (decoded chart.now)) }
 {
-    configured(chart, starts(chart))
+    configured(chart, |_, automaton| Outcome::Enters(automaton.first))
 }

@@ -1,11 +1,12 @@
 // The value of a signal: its amounts, combined.
-ghost use Rattle.std.specs.Prelude.{◌≡◌, ◌≤◌, length, take};
-ghost use Rattle.chart.specs.Decoded.{decode};
+ghost use Rattle.std.specs.Prelude.{◌≡◌};
+ghost use Rattle.chart.specs.Views.{decoded};
 ghost use Rattle.fixpoint.specs.Marks.{marked};
 ghost use Rattle.reaction.specs.Value.{amounts_of, combined_by, present, value_of};
 
 use crate::combine::combine;
 use crate::kinds::{Largest, Sum};
+use arrayvec::ArrayVec;
 use bits::has_bit;
 use chart::signal::Combining;
 use chart::view::Chart;
@@ -16,25 +17,24 @@ use status::status::Status;
 pub fn is_present(statuses: &[Status], s: usize) -> bool
     ensures { result ≡ present statuses.now s }
 {
-    s < statuses.len() && statuses[s].present
+    statuses.get(s).is_some_and(|status| status.present)
 }
 
-// The amounts of the fired transitions that emit signal s, in file order, at the front of the given places; answers their number.
-fn gather_amounts(chart: &Chart, fired: Fired, s: usize, amounts: &mut [u32]) -> usize
-    requires { length (decode chart.now.bytes.now).transitions ≤ length amounts.old }
-    ensures { (take result amounts.new ≡ amounts_of (decode chart.now.bytes.now) (marked fired.set) s) × (result ≤ length amounts.new) }
+// The amounts of the fired transitions that emit signal s, in file order.
+fn amounts_of(chart: &Chart, fired: Fired, s: usize) -> ArrayVec<u32, 128>
+    ensures { result.items ≡ amounts_of (decoded chart.now) (marked fired.set) s }
 {
-    let mut n = 0;
-    for k in 0..chart.transitions() {
-        if fired.has(k) & has_bit(chart.emitted(k).unwrap_or(0), s) {
-            amounts[n] = chart.amount(k).unwrap_or(0);
-            n += 1;
+    let mut amounts = ArrayVec::new();
+    for (k, transition) in chart.all_transitions().enumerate() {
+        if fired.has(k) & has_bit(transition.emitted, s) {
+            amounts.push(transition.amount);
         }
     }
-    n
+    amounts
 }
 
 // Amounts by the combining of a signal, if it has any.
+// A match and no closure: each kind combines in a type of its own.
 fn combine_by(combining: Combining, amounts: &[u32]) -> Option<u32>
     ensures { result ≡ combined_by combining amounts.now }
 {
@@ -47,13 +47,11 @@ fn combine_by(combining: Combining, amounts: &[u32]) -> Option<u32>
 
 // The value of signal s, if it is present and has combining.
 pub fn value(chart: &Chart, fired: Fired, statuses: &[Status], s: usize) -> Option<u32>
-    ensures { result ≡ value_of (decode chart.now.bytes.now) (marked fired.set) statuses.now s }
+    ensures { result ≡ value_of (decoded chart.now) (marked fired.set) statuses.now s }
 {
     if !is_present(statuses, s) {
         return None;
     }
     let signal = chart.signal(s)?;
-    let mut amounts = [0; 128];
-    let n = gather_amounts(chart, fired, s, &mut amounts);
-    combine_by(signal.combining, &amounts[..n])
+    combine_by(signal.combining, &amounts_of(chart, fired, s))
 }

@@ -1,7 +1,7 @@
 -- Where every signal is decided: there is one solution, and each automaton fires at most one transition. Assumes nothing.
-use Rattle.std.proofs.Common.{◌≡◌, ℕ, zero, suc, ◌*◌, ◌<◌, ◌≤◌, Bool, true, ◌&&◌, ◌||◌, eqb, List, [], ◌∷◌, map, length, get_or, take, filter, Option, sym, ap, ◌∙◌, subst, inl, inr, arith}
+use Rattle.std.proofs.Common.{◌≡◌, ℕ, zero, suc, ◌*◌, ◌<◌, ◌≤◌, Bool, true, false, ◌&&◌, cond, eqb, List, [], ◌∷◌, map, length, get_or, take, filter, Option, sym, ap, ◌∙◌, subst, ⊎_elim, inl, inr, arith}
 use Rattle.std.proofs.lemmas.List.{get_or-take, length-take}
-use Rattle.std.proofs.lemmas.Bool.{true≢false, and_parts, and_from, cond-true, cond_both, eq-eqb}
+use Rattle.std.proofs.lemmas.Bool.{true≢false, and_parts, and_from, cond-true, eq-eqb}
 use Rattle.fixpoint.specs.System.{Assignment, Solution, place, least}
 use Rattle.fixpoint.proofs.Leastness.{rounds_below, solution_closed}
 use Rattle.chart.specs.Decoded.{Decoded, no_transition}
@@ -9,7 +9,7 @@ use Rattle.chart.specs.declared.transition.Transition.{Transition}
 use Rattle.bits.specs.Members.{every}
 use Rattle.status.specs.Equations.{live, guard, rivals, firing, assigned, status_equations}
 use Rattle.status.specs.Solved.{Decided}
-use Rattle.status.specs.Status.{unknown, united, opposite}
+use Rattle.status.specs.Status.{status, unknown, united, opposite}
 use Rattle.status.specs.StatusLaws.{status_laws}
 use Rattle.status.specs.declared.status.Status.{Status}
 use Rattle.status.proofs.Clashes.{NoClash, guard_no_clash, assigned_no_clash}
@@ -21,10 +21,11 @@ decided_no_clash a (inr e) p q = true≢false (sym p ∙ ap (λ (x : Status). x.
 
 -- a decided status below a decided one is the same
 decided_below : (a b : Status) → Decided a → Decided b → united a b ≡ b → a ≡ b
-decided_below a b (inl e) (inl f) h = e ∙ sym f
-decided_below a b (inr e) (inr f) h = e ∙ sym f
-decided_below a b (inl e) (inr f) h = absurd (true≢false (sym (λ k. (e k).present || (f k).present) ∙ ap (λ (x : Status). x.present) h ∙ ap (λ (x : Status). x.present) f))
-decided_below a b (inr e) (inl f) h = absurd (true≢false (sym (λ k. (e k).absent || (f k).absent) ∙ ap (λ (x : Status). x.absent) h ∙ ap (λ (x : Status). x.absent) f))
+decided_below a b d e h =
+    let p = ap (λ (x : Status). x.present) h in
+    let q = ap (λ (x : Status). x.absent) h in
+    ⊎_elim (λ (k : a ≡ status true false). ⊎_elim (λ (l : b ≡ status true false). k ∙ sym l) (λ (l : b ≡ status false true). cc) e)
+    (λ (k : a ≡ status false true). ⊎_elim (λ (l : b ≡ status true false). cc) (λ (l : b ≡ status false true). k ∙ sym l) e) d
 
 -- where the least solution decides every signal, it is the only solution that does
 pub only_solution : (c : Decoded) (states : List (Option ℕ)) (mask : ℕ) → length c.signals ≤ 64
@@ -42,14 +43,14 @@ every_kept : {A : Type 0} (p : A → Bool) (f : A → Status) (xs : List A) (i :
     → every (λ a. a.present) (map f (filter p xs)) ≡ true → (f (get_or xs i d)).present ≡ true
 every_kept p f [] i d l t h = absurd (omega arith)
 every_kept p f (x ∷ xs) zero d l t h =
-    (and_parts (f x).present (every (λ a. a.present) (map f (filter p xs)))
-    (subst (λ ys. every (λ a. a.present) (map f ys) ≡ true) (cond-true (p x) (x ∷ filter p xs) (filter p xs) t) h)).0
+    let kept = cond-true (p x) (x ∷ filter p xs) (filter p xs) t in
+    (and_parts (f x).present _ (rw kept at h)).0
 every_kept p f (x ∷ xs) (suc i) d l t h =
     let rest = every_kept p f xs i d (omega arith) t in
-    cond_both (p x) (x ∷ filter p xs) (filter p xs) (λ ys. every (λ a. a.present) (map f ys) ≡ true → (f (get_or xs i d)).present ≡ true)
-    (λ e g. rest (and_parts (f x).present (every (λ a. a.present) (map f (filter p xs))) g).1)
-    (λ e g. rest g)
-    h
+    elim (p x) as (λ b. every (λ a. a.present) (map f (cond b (x ∷ filter p xs) (filter p xs))) ≡ true → (f (get_or xs i d)).present ≡ true) [
+      | true ↦ λ g. rest (and_parts (f x).present _ g).1
+      | false ↦ rest
+    ] h
 
 -- of two live transitions of one automaton at most one fires, where no signal has a clash:
 -- the later one's firing is shown only where the earlier one's guard is shown absent

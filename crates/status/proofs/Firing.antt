@@ -1,17 +1,27 @@
 -- Which transitions fired. Assumes nothing.
-use Rattle.std.proofs.Common.{◌≡◌, ℕ, ◌<◌, Bool, true, ◌&&◌, ◌||◌, eqb, ltb, List, length, Option, sym, ◌∙◌, ⊎_elim, arith}
-use Rattle.std.proofs.lemmas.Bool.{and_parts, cases_order, lt-ltb, ltb-true}
-use Rattle.std.proofs.lemmas.Bool.Decides.{nat_tests}
-use Rattle.chart.specs.Decoded.{Decoded, transition}
-use Rattle.status.specs.Equations.{assigned, live}
+use Rattle.std.proofs.Common.{◌≡◌, ℕ, ◌<◌, Bool, true, ◌&&◌, ltb, List, length, get_or, take, Option, sym, ap, ◌∙◌, ⊎_elim, zero-add, arith}
+use Rattle.std.specs.List.{enumerate_from}
+use Rattle.std.proofs.lemmas.Bool.{and_parts, cases_order, ltb-true}
+use Rattle.std.proofs.lemmas.List.{get_or_default}
+use Rattle.std.proofs.lemmas.List.FromFn.{get_or-enumerate_from, length-enumerate_from}
+use Rattle.chart.specs.Decoded.{Decoded, no_transition, transition}
+use Rattle.chart.specs.declared.transition.Transition.{Transition}
+use Rattle.status.specs.Equations.{assigned, firing, live}
 use Rattle.status.specs.Fired.{FiredUnder, fires, has_fired}
 use Rattle.status.specs.Solved.{DecidedAll}
 use Rattle.status.specs.declared.status.Status.{Status}
 use Rattle.status.proofs.Deciding.{one_firing_decided}
 
--- a number below 128 is marked too
-pub marked_too : (old new : Bool) (j k : ℕ) → k < 128 → new ≡ (old || (eqb j k && ltb k 128)) → new ≡ (old || eqb j k)
-marked_too old new j k l e = let small = lt-ltb k 128 l in grind (arith, nat_tests)
+-- whether the next of the numbered transitions fires
+pub fires_next : (c : Decoded) (states : List (Option ℕ)) (u : ℕ → Status) (n k : ℕ) (t : Transition) {alive : Bool} {f : Status}
+    → (n < length (enumerate_from 0 c.transitions)) × ((k, t) ≡ get_or (enumerate_from 0 c.transitions) n (k, t)) → alive ≡ live states t → f ≡ firing states u (take k c.transitions) t
+    → (n < length c.transitions) × (k ≡ n) × ((alive && f.present) ≡ fires c states u n)
+fires_next c states u n k t at lives shown =
+    let inside : n < length c.transitions = omega (arith, length-enumerate_from 0 c.transitions, at.0) in
+    let item = at.1 ∙ get_or-enumerate_from 0 c.transitions n (k, t) inside in
+    let number = ap (λ p. p.0) item ∙ zero-add n in
+    let same = ap (λ p. p.1) item ∙ get_or_default c.transitions n t no_transition inside in
+    (inside, number, λ i. (lives ∙ ap (live states) same) i && ((shown ∙ (λ j. firing states u (take (number j) c.transitions) (same j))) i).present)
 
 module _ (c : Decoded) (states : List (Option ℕ)) (xs : List Status) (decided : DecidedAll (length c.signals) xs) where
   -- of two transitions of one automaton the earlier excludes the later

@@ -1,55 +1,39 @@
--- What is gathered from an area. Assumes nothing.
-use Rattle.std.proofs.Common.{◌≡◌, ℕ, ◌+◌, ◌<◌, ◌≤◌, Bool, true, false, ◌&&◌, ◌||◌, eqb, List, length, get_or, take, sym, ap, ◌∙◌, ⊎_elim, arith}
-use mathlib.Core.Bool.{and-false, and-true, or-false}
-use Rattle.std.proofs.lemmas.List.{get_or_past, get_or-take, length-take-le}
-use Rattle.std.proofs.lemmas.Bool.{cases_order, eq-eqb, ne_eqb}
+-- Words made bit by bit. Assumes nothing.
+use Rattle.std.proofs.Common.{◌≡◌, ℕ, ◌+◌, ◌<◌, ◌≤◌, Bool, true, false, ◌&&◌, ◌||◌, eqb, ltb, List, length, get_or, ap, ◌∙◌, ⊎_elim, arith}
+use Rattle.std.proofs.lemmas.Bool.{cases_eq, cases_lt}
+use Rattle.std.proofs.lemmas.Bool.Decides.{nat_tests}
+use Rattle.std.proofs.lemmas.List.{get_or_past}
 use Rattle.bits.specs.Bits.{bit}
 use Rattle.bits.proofs.Digits.{bit_zero}
-use Rattle.status.specs.Equations.{assigned}
-use Rattle.status.specs.Status.{status, unknown}
-use Rattle.status.specs.Words.{told}
-use Rattle.status.specs.declared.status.Status.{Status}
-use Rattle.status.specs.declared.equations.Words.{Words}
 
--- no signal is gathered before the first
-pub gathered_none : (j : ℕ) → told (record { present = 0; absent = 0 }) j ≡ unknown
-gathered_none j = λ k. status (bit_zero j k) (bit_zero j k)
+-- no number yet of those that pass a test
+pub none_yet : (test : ℕ → Bool) (k : ℕ) → bit 0 k ≡ (ltb k 0 && test k)
+none_yet test k = let none = bit_zero k in grind (arith, nat_tests)
 
--- a status with the marks of another where a test holds
-added : Status → Status → Bool → Status
-added a x t = status (a.present || (x.present && t)) (a.absent || (x.absent && t))
+-- one number more of them
+pub one_more : (test : ℕ → Bool) (old new on : Bool) (s k : ℕ) → on ≡ test s → old ≡ (ltb k s && test k) → new ≡ (old || (on && eqb k s)) → new ≡ (ltb k (s + 1) && test k)
+one_more test old new on s k is before after = ⊎_elim
+    (λ (e : k ≡ s). let here : test k ≡ test s = ap test e in grind (arith, nat_tests))
+    (λ (d : k ≡ s → ⊥). grind (arith, nat_tests))
+    (cases_eq k s)
 
--- where it does not hold nothing is added
-added_no : (a x : Status) → added a x false ≡ a
-unfolding added
-added_no a x = λ k. status ((ap (λ b. a.present || b) (and-false x.present) ∙ or-false a.present) k) ((ap (λ b. a.absent || b) (and-false x.absent) ∙ or-false a.absent) k)
+-- the same for a set of numbers below 128, where m is the next number: one that passes is added, and one that does not is left out
+module _ (test : ℕ → Bool) (old : Bool) (n m j : ℕ) (next : m ≡ n + 1) (before : old ≡ (ltb j n && test j)) where
+  pub one_added : (new : Bool) (k : ℕ) → k ≡ n → n < 128 → test n ≡ true → new ≡ (old || (eqb j k && ltb k 128)) → new ≡ (ltb j m && test j)
+  one_added new k at small passes after = ⊎_elim
+      (λ (e : j ≡ n). let here : test j ≡ test n = ap test e in grind (arith, nat_tests))
+      (λ (d : j ≡ n → ⊥). grind (arith, nat_tests))
+      (cases_eq j n)
 
--- where it holds the other is added to nothing
-added_yes : (x : Status) → added unknown x true ≡ x
-unfolding added
-added_yes x = λ k. status (and-true x.present k) (and-true x.absent k)
+  pub none_added : test n ≡ false → old ≡ (ltb j m && test j)
+  none_added fails = ⊎_elim
+      (λ (e : j ≡ n). let here : test j ≡ test n = ap test e in grind (arith, nat_tests))
+      (λ (d : j ≡ n → ⊥). grind (arith, nat_tests))
+      (cases_eq j n)
 
--- beyond the places that count nothing is known
-assigned_past : (n : ℕ) (xs : List Status) (j : ℕ) → n ≤ length xs → n ≤ j → assigned n xs j ≡ unknown
-assigned_past n xs j h l = let long = length-take-le n xs h in get_or_past (take n xs) j unknown (omega arith)
-
--- one place more counts
-assigned_more : (xs : List Status) (s j : ℕ) → s < length xs → assigned (s + 1) xs j ≡ added (assigned s xs j) (get_or xs s unknown) (eqb j s)
-assigned_more xs s j h = ⊎_elim
-    (λ (e : j ≡ s).
-    let here = ap (λ i. get_or xs i unknown) e in
-    let past = assigned_past s xs j (omega arith) (omega arith) in
-    get_or-take (s + 1) xs j unknown (omega arith) ∙ here ∙ sym (added_yes (get_or xs s unknown)) ∙ (λ k. added (sym past k) (get_or xs s unknown) (sym (eq-eqb j s e) k)))
-    (⊎_elim
-    (λ (l : j < s). get_or-take (s + 1) xs j unknown (omega arith) ∙ sym (get_or-take s xs j unknown l) ∙ sym (added_no (assigned s xs j) (get_or xs s unknown)) ∙ ap (added (assigned s xs j) (get_or xs s unknown)) (sym (ne_eqb j s (λ e. omega arith))))
-    (λ (l : s < j). assigned_past (s + 1) xs j (omega arith) (omega arith) ∙ sym (assigned_past s xs j (omega arith) (omega arith)) ∙ sym (added_no (assigned s xs j) (get_or xs s unknown)) ∙ ap (added (assigned s xs j) (get_or xs s unknown)) (sym (ne_eqb j s (λ e. omega arith)))))
-    (cases_order j s)
-
--- one signal more is gathered
-pub gathered_more : (before after : Words) (xs : List Status) (s : ℕ) → s < length xs → ((j : ℕ) → told before j ≡ assigned s xs j)
-    → ((j : ℕ) → bit after.present j ≡ (bit before.present j || ((get_or xs s unknown).present && eqb j s)))
-    → ((j : ℕ) → bit after.absent j ≡ (bit before.absent j || ((get_or xs s unknown).absent && eqb j s)))
-    → (j : ℕ) → told after j ≡ assigned (s + 1) xs j
-unfolding added
-gathered_more before after xs s h inv p a j =
-    (λ k. status (p j k) (a j k)) ∙ ap (λ b. added b (get_or xs s unknown) (eqb j s)) (inv j) ∙ sym (assigned_more xs s j h)
+-- all of them, where the value beyond the end passes no test
+pub all_read : {A : Type 0} (p : A → Bool) (d : A) (xs : List A) (n k : ℕ) → p d ≡ false → n ≡ length xs → (ltb k n && p (get_or xs k d)) ≡ p (get_or xs k d)
+all_read p d xs n k none all = ⊎_elim
+    (λ (l : k < n). grind (arith, nat_tests))
+    (λ (l : n ≤ k). let past : p (get_or xs k d) ≡ false = ap p (get_or_past xs k d (omega arith)) ∙ none in grind (arith, nat_tests))
+    (cases_lt k n)

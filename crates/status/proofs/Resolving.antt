@@ -1,7 +1,7 @@
 -- What the least solution of an instant's equations tells. Assumes nothing.
-use Rattle.std.proofs.Common.{◌≡◌, ℕ, ◌+◌, ◌*◌, ◌<◌, ◌≤◌, Bool, true, false, not, ◌&&◌, ◌||◌, eqb, ltb, List, length, get_or, Ok, Err, Option, Result, sym, refl, ap, ◌∙◌, subst, inl, inr, ⊎_elim, arith}
-use Rattle.std.proofs.lemmas.List.{get_or-take}
-use Rattle.std.proofs.lemmas.Bool.{both_ways, cases_eq, cases_lt, lt-ltb, or_parts}
+use Rattle.std.proofs.Common.{◌≡◌, ℕ, ◌*◌, ◌<◌, ◌≤◌, Bool, true, false, not, ◌&&◌, ltb, List, length, get_or, take, Ok, Err, Option, Result, sym, refl, ap, ◌∙◌, subst, inl, inr, ⊎_elim, arith}
+use Rattle.std.proofs.lemmas.List.{get_or-take, length-take-le}
+use Rattle.std.proofs.lemmas.Bool.{both_ways, cases_lt, lt-ltb}
 use Rattle.std.proofs.lemmas.Bool.Decides.{nat_tests}
 use Rattle.bits.specs.Bits.{bit}
 use Rattle.bits.proofs.Digits.{bit_zero}
@@ -22,23 +22,14 @@ not_refused a e places n refused = ⊎_elim
     (λ (l : n ≤ places). l)
     (cases_lt places n)
 
--- one signal more that is unknown, and one more that is not
-pub unknown_yes : (u : ℕ → Status) (old new : Bool) (s k : ℕ) → s < 64 → ((u s).present || (u s).absent) ≡ false → old ≡ (ltb k s && is_unknown (u k))
-    → new ≡ (old || (ltb s 64 && eqb k s)) → new ≡ (ltb k (s + 1) && is_unknown (u k))
-unknown_yes u old new s k small none e f = ⊎_elim
-    (λ (d : k ≡ s). let here : ((u k).present || (u k).absent) ≡ false = ap (λ j. (u j).present || (u j).absent) d ∙ none in
-    let parts = or_parts (u k).present (u k).absent here in
-    grind (arith, nat_tests))
-    (λ (d : k ≡ s → ⊥). grind (arith, nat_tests))
-    (cases_eq k s)
-
-pub unknown_no : (u : ℕ → Status) (old : Bool) (s k : ℕ) → ((u s).present || (u s).absent) ≡ true → old ≡ (ltb k s && is_unknown (u k))
-    → old ≡ (ltb k (s + 1) && is_unknown (u k))
-unknown_no u old s k shows e = ⊎_elim
-    (λ (d : k ≡ s). let here : ((u k).present || (u k).absent) ≡ true = ap (λ j. (u j).present || (u j).absent) d ∙ shows in
-    grind (arith, nat_tests))
-    (λ (d : k ≡ s → ⊥). grind (arith, nat_tests))
-    (cases_eq k s)
+-- the unknown signals among the first places
+pub unknown_taken : (n : ℕ) (xs : List Status) (s : ℕ) → n ≤ length xs → (ltb s (length (take n xs)) && is_unknown (get_or (take n xs) s unknown)) ≡ (ltb s n && is_unknown (get_or xs s unknown))
+unknown_taken n xs s enough =
+    let long = length-take-le n xs enough in
+    ⊎_elim
+    (λ (l : s < n). λ i. ltb s (long i) && is_unknown (get_or-take n xs s unknown l i))
+    (λ (l : n ≤ s). grind (arith, nat_tests))
+    (cases_lt s n)
 
 -- a status that is neither unknown nor a clash is decided
 marks_decided : (p a : Bool) → (not p && not a) ≡ false → (p ≡ true → a ≡ true → ⊥) → Decided (status p a)

@@ -4,4 +4,5 @@ pub mod Fired
 pub mod Solved
 pub mod Status
 pub mod StatusLaws
+pub mod StatusSystem
 pub mod Words

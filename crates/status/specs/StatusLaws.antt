@@ -8,7 +8,7 @@ use Rattle.std.proofs.ByRecursion.{All-weaker}
 use Rattle.std.proofs.lemmas.Bool.{true≢false, and_left, and_right, and_from, or_left, or_right, lt-ltb, le-ltb}
 use Rattle.bits.specs.Bits.{bit}
 use Rattle.bits.specs.Members.{members, some}
-use Rattle.bits.proofs.Members
+use Rattle.bits.proofs.Members.{members_set}
 use Rattle.fixpoint.specs.System.{Laws}
 use Rattle.fixpoint.proofs.Evaluating.{given_beyond, given_related, given_short, taken_related}
 use Rattle.fixpoint.proofs.Lattice.{joins_below}
@@ -30,10 +30,6 @@ pub record Kept (R : Status → Status → Type 0) : Type 0 where
   pub shows : (b : Bool) → R (shown b) (shown b)
   pub nots : (a b : Status) → R a b → R (opposite a) (opposite b)
   pub ands : (a b c d : Status) → R a b → R c d → R (both a c) (both b d)
-
--- the bits of a mask's members are set
-members_set : (mask : ℕ) → AllByRecursion (λ s. bit mask s ≡ true) (members mask)
-members_set mask = Members.members_set mask
 
 module _ (R : Status → Status → Type 0) (kept : Kept R) where
   -- related parts have a related And

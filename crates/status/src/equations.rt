@@ -1,19 +1,19 @@
 // The status system of one instant.
-ghost use Rattle.std.specs.Prelude.{◌≡◌, ℕ, ◌<◌, ◌≤◌, ◌&&◌, ◌||◌, [], length, take, MatchResult, ◌==◌};
+ghost use Rattle.std.specs.Prelude.{◌≡◌, ℕ, ◌<◌, ◌≤◌, ◌&&◌, ◌||◌, [], length, take, MatchResult, ◌==◌, slice_index_or};
 ghost use Rattle.bits.specs.Bits.{bit};
-ghost use Rattle.chart.specs.Decoded.{decode, input, transition};
-ghost use Rattle.status.specs.Configuration.{holds};
-ghost use Rattle.status.specs.Equations.{assigned, bears, emits, firing, guard, guarded, hears, live, mentions, status_equations, status_of};
+ghost use Rattle.status.specs.Equations.{bears, emits, firing, guard, hears, live, mentions, status_equations, status_of};
 ghost use Rattle.fixpoint.specs.Marks.{marked};
 ghost use Rattle.status.specs.Fired.{FiredUnder, has_fired};
-ghost use Rattle.status.specs.Status.{both, either, opposite};
+ghost use Rattle.status.specs.Status.{unknown};
 ghost use Rattle.status.specs.StatusLaws.{few_signals, status_laws};
+ghost use Rattle.status.specs.StatusSystem.{chart_of, states_of};
 ghost use Rattle.status.specs.Words.{told};
 
 use crate::configuration::Configuration;
 use crate::fired::Fired;
 use crate::status::Status;
 use bits::{has_bit, with_bit};
+use chart::transition::Transition;
 use chart::view::Chart;
 use fixpoint::marks::Marks;
 use fixpoint::solver::ShortArea;
@@ -42,57 +42,16 @@ pub fn status_system<'a, 'b>(
     }
 }
 
-// And of two statuses, Or of two, Not of one.
-fn both(a: Status, b: Status) -> Status
-    ensures { result ≡ both a b }
-{
-    Status {
-        present: a.present & b.present,
-        absent: a.absent | b.absent,
-    }
-}
-
-fn either(a: Status, b: Status) -> Status
-    ensures { result ≡ either a b }
-{
-    Status {
-        present: a.present | b.present,
-        absent: a.absent & b.absent,
-    }
-}
-
-fn opposite(a: Status) -> Status
-    ensures { result ≡ opposite a }
-{
-    Status {
-        present: a.absent,
-        absent: a.present,
-    }
-}
-
-// Whether automaton k holds that state.
-fn holds(states: &[Option<u8>], k: usize, state: u8) -> bool
-    ensures { result ≡ holds states.now k state }
-{
-    if k >= states.len() {
-        return false;
-    }
-    let held = states[k];
-    match held {
-        Some(x) => x == state,
-        None => false,
-    }
-}
-
 // The statuses of up to 64 signals in two words, so that a guard is a few operations on masks.
-#[derive(Clone, Copy)]
+#[derive(Clone, Copy, Default)]
 struct Words {
     present: u64,
     absent: u64,
 }
 
-// A word with bit i set too where a test says so.
-fn marked(word: u64, i: usize, on: bool) -> u64
+// A word with bit i set too where a test says so. The sets of bits that are made by a test stay loops of their own:
+// one function over any test would have to require that it can be called, and public calls require nothing.
+pub(crate) fn marked(word: u64, i: usize, on: bool) -> u64
     requires { i < 64 }
     ensures { (j : ℕ) → bit result j ≡ (bit word j || (on && j == i)) }
 {
@@ -102,121 +61,96 @@ fn marked(word: u64, i: usize, on: bool) -> u64
     word
 }
 
-// The first n statuses of an area.
-fn gather(area: &[Status], n: usize) -> Words
-    requires { (n ≤ length area.now) × (n ≤ 64) }
-    ensures { (s : ℕ) → told result s ≡ assigned n area.now s }
-{
-    let mut words = Words {
-        present: 0,
-        absent: 0,
-    };
-    for s in 0..n {
-        words.present = marked(words.present, s, area[s].present);
-        words.absent = marked(words.absent, s, area[s].absent);
+impl Words {
+    // The statuses in an area.
+    fn gather(area: &[Status]) -> Words
+        requires { length area.now ≤ 64 }
+        ensures { (s : ℕ) → told result s ≡ slice_index_or area.now s unknown }
+    {
+        let mut words = Words::default();
+        for (s, status) in area.iter().enumerate() {
+            words.present = marked(words.present, s, status.present);
+            words.absent = marked(words.absent, s, status.absent);
+        }
+        words
     }
-    words
+
+    // The guard of a transition.
+    fn guard(self, t: &Transition) -> Status
+        ensures { result ≡ guard (told self) t.now }
+    {
+        Status {
+            present: (t.needed & !self.present == 0) & (t.forbidden & !self.absent == 0),
+            absent: (t.needed & self.absent != 0) | (t.forbidden & self.present != 0),
+        }
+    }
 }
 
-// The guard with these masks.
-fn guard(words: Words, needed: u64, forbidden: u64) -> Status
-    ensures { result ≡ guarded (told words) needed forbidden }
+// Whether the guard of a transition mentions signal j.
+fn mentions(t: &Transition, j: usize) -> bool
+    ensures { result ≡ mentions j t.now }
 {
-    Status {
-        present: (needed & !words.present == 0) & (forbidden & !words.absent == 0),
-        absent: (needed & words.absent != 0) | (forbidden & words.present != 0),
-    }
+    has_bit(t.needed, j) | has_bit(t.forbidden, j)
 }
 
 impl<'a, 'b> StatusSystem<'a, 'b> {
-    // Whether transition k is live.
-    fn live(&self, k: usize) -> bool
-        ensures { result ≡ live self.now.configuration.now.states (transition (decode self.now.chart.bytes.now) k) }
+    // Whether a transition is live.
+    fn live(&self, t: &Transition) -> bool
+        ensures { result ≡ live (states_of self.now) t.now }
     {
-        let automaton = usize::from(self.chart.automaton_of(k).unwrap_or(0));
-        let source = self.chart.source(k).unwrap_or(0);
-        holds(&self.configuration.states, automaton, source)
+        self.configuration.holds(usize::from(t.automaton), t.source)
     }
 
-    // The guard of transition k.
-    fn guard(&self, words: Words, k: usize) -> Status
-        ensures { result ≡ guard (told words) (transition (decode self.now.chart.bytes.now) k) }
+    // Whether a transition is live and of the automaton of another.
+    fn rival(&self, e: &Transition, t: &Transition) -> bool
+        ensures { result ≡ (live (states_of self.now) e.now && e.now.automaton == t.now.automaton) }
     {
-        guard(
-            words,
-            self.chart.needed(k).unwrap_or(0),
-            self.chart.forbidden(k).unwrap_or(0),
-        )
+        self.live(e) & (e.automaton == t.automaton)
     }
 
-    // Whether transition e is live and of the automaton of transition k.
-    fn rival(&self, e: usize, k: usize) -> bool
-        ensures { result ≡ (live self.now.configuration.now.states (transition (decode self.now.chart.bytes.now) e) && (transition (decode self.now.chart.bytes.now) e).automaton == (transition (decode self.now.chart.bytes.now) k).automaton) }
+    // The firing of transition k, which is t.
+    fn firing(&self, words: Words, k: usize, t: &Transition) -> Status
+        ensures { result ≡ firing (states_of self.now) (told words) (take k (chart_of self.now).transitions) t.now }
     {
-        self.live(e)
-            & (self.chart.automaton_of(e).unwrap_or(0) == self.chart.automaton_of(k).unwrap_or(0))
+        self.chart
+            .all_transitions()
+            .take(k)
+            .filter(|e| self.rival(e, t))
+            .fold(words.guard(t), |fires, e| fires & !words.guard(&e))
     }
 
-    // The firing of transition k.
-    fn firing(&self, words: Words, k: usize) -> Status
-        requires { k < length (decode self.now.chart.bytes.now).transitions }
-        ensures { result ≡ firing self.now.configuration.now.states (told words) (take k (decode self.now.chart.bytes.now).transitions) (transition (decode self.now.chart.bytes.now) k) }
+    // Whether a transition is live and emits signal s.
+    fn emits(&self, t: &Transition, s: usize) -> bool
+        ensures { result ≡ emits (states_of self.now) s t.now }
     {
-        let mut fires = self.guard(words, k);
-        for e in 0..k {
-            if self.rival(e, k) {
-                fires = both(fires, opposite(self.guard(words, e)));
-            }
-        }
-        fires
-    }
-
-    // Whether transition k is live and emits signal s.
-    fn emits(&self, k: usize, s: usize) -> bool
-        ensures { result ≡ emits self.now.configuration.now.states s (transition (decode self.now.chart.bytes.now) k) }
-    {
-        self.live(k) & has_bit(self.chart.emitted(k).unwrap_or(0), s)
-    }
-
-    // Whether signal s is an input.
-    fn is_input(&self, s: usize) -> bool
-        ensures { result ≡ input (decode self.now.chart.bytes.now) s }
-    {
-        self.chart.is_input(s)
+        self.live(t) & has_bit(t.emitted, s)
     }
 
     // The equation of signal s.
     fn status_of(&self, words: Words, s: usize) -> Status
-        ensures { result ≡ status_of (decode self.now.chart.bytes.now) self.now.configuration.now.states self.now.mask (told words) s }
+        ensures { result ≡ status_of (chart_of self.now) (states_of self.now) self.now.mask (told words) s }
     {
-        if self.is_input(s) {
-            let present = has_bit(self.mask, s);
-            return Status {
-                present,
-                absent: !present,
-            };
+        if self.chart.is_input(s) {
+            return Status::from(has_bit(self.mask, s));
         }
-        let mut emitted = Status {
-            present: false,
-            absent: true,
-        };
-        for k in 0..self.chart.transitions() {
-            if self.emits(k, s) {
-                emitted = either(emitted, self.firing(words, k));
-            }
-        }
-        emitted
+        self.chart
+            .all_transitions()
+            .enumerate()
+            .filter(|(_, t)| self.emits(t, s))
+            .fold(Status::from(false), |emitted, (k, t)| {
+                emitted | self.firing(words, k, &t)
+            })
     }
 
     // The transitions that fired under the first statuses of an area.
     fn fired_set(&self, area: &[Status]) -> Marks
-        requires { length (decode self.now.chart.bytes.now).signals ≤ length area.now }
-        ensures { (k : ℕ) → marked result k ≡ has_fired (decode self.now.chart.bytes.now) self.now.configuration.now.states area.now k }
+        requires { length (chart_of self.now).signals ≤ length area.now }
+        ensures { (k : ℕ) → marked result k ≡ has_fired (chart_of self.now) (states_of self.now) area.now k }
     {
-        let words = gather(area, self.chart.signals());
-        let mut set = Marks { low: 0, high: 0 };
-        for k in 0..self.chart.transitions() {
-            if self.live(k) & self.firing(words, k).present {
+        let words = Words::gather(&area[..self.chart.signals()]);
+        let mut set = Marks::new();
+        for (k, t) in self.chart.all_transitions().enumerate() {
+            if self.live(&t) & self.firing(words, k, &t).present {
                 set = set.with(k);
             }
         }
@@ -225,7 +159,7 @@ impl<'a, 'b> StatusSystem<'a, 'b> {
 
     // The transitions that fired under the statuses of an area.
     pub fn fired(&self, area: &[Status]) -> Result<Fired, ShortArea>
-        ensures { MatchResult result (λ f. FiredUnder (decode self.now.chart.bytes.now) self.now.configuration.now.states area.now (marked f.set)) (λ e. (e.needed ≡ length (decode self.now.chart.bytes.now).signals) × (length area.now < e.needed)) }
+        ensures { MatchResult result (λ f. FiredUnder (chart_of self.now) (states_of self.now) area.now (marked f.set)) (λ e. (e.needed ≡ length (chart_of self.now).signals) × (length area.now < e.needed)) }
     {
         let n = self.chart.signals();
         if area.len() < n {
@@ -236,58 +170,45 @@ impl<'a, 'b> StatusSystem<'a, 'b> {
         })
     }
 
-    // Whether the guard of transition k mentions signal j.
-    fn mentions(&self, k: usize, j: usize) -> bool
-        ensures { result ≡ mentions j (transition (decode self.now.chart.bytes.now) k) }
+    // Whether the firing of transition k, which is t, depends on signal j.
+    fn bears(&self, j: usize, k: usize, t: &Transition) -> bool
+        ensures { result ≡ bears (states_of self.now) j (take k (chart_of self.now).transitions) t.now }
     {
-        has_bit(self.chart.needed(k).unwrap_or(0), j)
-            | has_bit(self.chart.forbidden(k).unwrap_or(0), j)
-    }
-
-    // Whether the firing of transition k depends on signal j.
-    fn bears(&self, k: usize, j: usize) -> bool
-        requires { k < length (decode self.now.chart.bytes.now).transitions }
-        ensures { result ≡ bears self.now.configuration.now.states j (take k (decode self.now.chart.bytes.now).transitions) (transition (decode self.now.chart.bytes.now) k) }
-    {
-        for e in 0..k {
-            if self.rival(e, k) && self.mentions(e, j) {
-                return true;
-            }
-        }
-        self.mentions(k, j)
+        mentions(t, j)
+            || self
+                .chart
+                .all_transitions()
+                .take(k)
+                .any(|e| self.rival(&e, t) && mentions(&e, j))
     }
 
     // Whether a firing that makes up signal s depends on signal j.
     fn hears(&self, s: usize, j: usize) -> bool
-        ensures { result ≡ hears self.now.configuration.now.states s j [] (decode self.now.chart.bytes.now).transitions }
+        ensures { result ≡ hears (states_of self.now) s j [] (chart_of self.now).transitions }
     {
-        for k in 0..self.chart.transitions() {
-            if self.emits(k, s) && self.bears(k, j) {
-                return true;
-            }
-        }
-        false
+        self.chart
+            .all_transitions()
+            .enumerate()
+            .any(|(k, t)| self.emits(&t, s) && self.bears(j, k, &t))
     }
 }
 
 impl<'a, 'b> System for StatusSystem<'a, 'b> {
     type Element = Status;
 
-    ghost equations = { λ s. status_equations (decode s.chart.bytes.now) s.configuration.now.states s.mask };
+    ghost equations = { λ s. status_equations (chart_of s) (states_of s) s.mask };
 
-    ghost laws = { λ s. status_laws (decode s.chart.bytes.now) s.configuration.now.states s.mask (few_signals s.chart.bytes.now s.chart.layout) };
+    ghost laws = { λ s. status_laws (chart_of s) (states_of s) s.mask (few_signals s.chart.bytes.now s.chart.layout) };
 
     fn count(&self) -> usize {
         self.chart.signals()
     }
 
     fn bottom(&self) -> Status {
-        Status {
-            present: false,
-            absent: false,
-        }
+        Status::default()
     }
 
+    // The marks of both, which is neither their And nor their Or.
     fn join(&self, a: Status, b: Status) -> Status {
         Status {
             present: a.present | b.present,
@@ -300,15 +221,15 @@ impl<'a, 'b> System for StatusSystem<'a, 'b> {
         if i >= n || area.len() < n {
             return self.bottom();
         }
-        self.status_of(gather(area, n), i)
+        self.status_of(Words::gather(&area[..n]), i)
     }
 
     fn same(&self, a: Status, b: Status) -> bool {
-        a.present == b.present && a.absent == b.absent
+        a == b
     }
 
     fn reads(&self, i: usize, j: usize) -> bool {
         let n = self.chart.signals();
-        i < n && j < n && !self.is_input(i) && self.hears(i, j)
+        i < n && j < n && !self.chart.is_input(i) && self.hears(i, j)
     }
 }

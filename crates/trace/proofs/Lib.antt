@@ -1,4 +1,3 @@
-pub mod Digits
-pub mod Laying
 pub mod Longest
 pub mod Pieces
+pub mod Signals

@@ -12,7 +12,7 @@ use Rattle.chart.specs.Layout.{Layout}
 use Rattle.chart.specs.Places.{automaton_count}
 use Rattle.chart.proofs.Decoding.{automata_long, automaton_some}
 use Rattle.trace.specs.Line.{StatesWithin, space_held, state_text, states_text}
-use Rattle.trace.proofs.Laying.{joined_number}
+use Rattle.trace.proofs.Pieces.{joined_number}
 
 -- a state below 10 has one digit, and one below 32 has two
 digits_short : (s n : ℕ) → s < n → n ≤ 32 → 10 * length (decimal s) ≤ 9 + n
@@ -44,10 +44,17 @@ module _ (bs : List ℕ) (h : Layout bs) (states : List (Option ℕ)) (held : St
       subst P (add-one n) (omega (arith, text, sum))
 
 -- the states of a chart are at most 67 bytes long
-pub states_short : (bs : List ℕ) → ∥ Layout bs ∥₁ → (states : List (Option ℕ)) → StatesWithin (decode bs) states → length (states_text (decode bs) states) ≤ 67
+states_short : (bs : List ℕ) → ∥ Layout bs ∥₁ → (states : List (Option ℕ)) → StatesWithin (decode bs) states → length (states_text (decode bs) states) ≤ 67
 states_short bs t states held = ∥∥₁_elim t le_prop (λ h.
     let few = h.few_automata in
     let together = h.together in
     let long = states_long bs h states held (automaton_count bs) (omega arith) in
     let same = ap (λ n. length (flat_map (state_text states) (range_with_len 0 n))) (automata_long bs) in
     omega (arith, same))
+
+-- a count of seven digits and the states of a chart
+pub counted_short : (bs : List ℕ) → ∥ Layout bs ∥₁ → (count : ℕ) (states : List (Option ℕ)) → count ≤ 1000000 → StatesWithin (decode bs) states
+    → length (decimal count) + length (states_text (decode bs) states) ≤ 74
+counted_short bs t count states few held =
+    let digits = length-decimal-le 7 count (omega arith) (omega arith) (omega arith) in
+    omega (arith, states_short bs t states held)

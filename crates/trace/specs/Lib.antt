@@ -1,2 +1,2 @@
-pub mod Laid
 pub mod Line
+pub mod Pieces

@@ -1,16 +1,26 @@
 // The line of an accepted instant: its length, and its bytes.
-ghost use Rattle.std.specs.Prelude.{◌≡◌, ◌+◌, ◌^◌, ◌<◌, ◌≤◌, length, None, decimal, slice_index_or};
-ghost use Rattle.trace.specs.Laid.{Laid};
-ghost use Rattle.trace.specs.Line.{StatesWithin, write_answer, chart_of, output, signal_text, signals_text, space_held, states_text, told_line, value_text, values_of, write_buffer};
+ghost use Rattle.std.specs.Prelude.{◌≡◌, ◌+◌, ◌≤◌, [], length, decimal, Some, slice_index_or};
+ghost use Rattle.std.specs.List.{slice_get};
+ghost use Rattle.arrayvec.specs.ArrayString.{array_string_len};
+ghost use Rattle.trace.specs.Line.{StatesWithin, write_answer, chart_of, signal_text, signals_text, space_held, states_text, told_line, value_text, values_of, write_buffer};
+ghost use Rattle.trace.specs.Pieces.{Appends, Room};
 
-use crate::decimal::decimal;
-use chart::signal::Kind;
+use arrayvec::ArrayString;
+use chart::signal::{Kind, Signal};
 use chart::view::Chart;
+use itoa::{Buffer, Integer};
 use reaction::fault::InstantFault;
 use reaction::value::{is_present, value};
 use status::configuration::Configuration;
 use status::fired::Fired;
 use status::status::Status;
+use std::{fmt, str};
+
+// The longest line: a count of ten digits, 64 outputs of twenty bytes, 32 states of four bytes, and four bytes around them.
+const LONGEST: usize = 1422;
+
+// The text of a line, or of its first pieces. Each piece requires its own room: one that tested for it could fail.
+type Text = ArrayString<LONGEST>;
 
 // What a line tells: the new count, the statuses of the signals, what fired, and the configuration after it.
 #[derive(Clone, Copy)]
@@ -22,137 +32,104 @@ pub struct Line<'a, 'b, 'c> {
     pub after: &'c Configuration,
 }
 
-// Lays text over a buffer from a place on, as far as the buffer goes; answers the place after the text.
-fn put(buffer: &mut [u8], at: usize, text: &[u8]) -> usize
-    requires { at + length text.now ≤ 2 ^ 32 }
-    ensures { Laid text.now buffer.old at buffer.new result }
-{
-    let mut place = at;
-    for byte in text {
-        if place < buffer.len() {
-            buffer[place] = *byte;
-        }
-        place += 1;
-    }
-    place
-}
-
 // A number in decimal.
-fn put_number(buffer: &mut [u8], at: usize, n: u32) -> usize
-    requires { at + 10 ≤ 2 ^ 32 }
-    ensures { (Laid (decimal n) buffer.old at buffer.new result) × (result ≤ at + 10) }
+fn push_number<I: Integer>(text: &mut Text, n: I)
+    requires { Room I.MAX_STR_LEN text.old }
+    ensures { Appends (I.text n) I.MAX_STR_LEN text.old text.new }
 {
-    let number = decimal(n);
-    put(buffer, at, &number.places[number.start..])
+    text.push_str(Buffer::new().format(n));
 }
 
 // The value of an output, if it has one.
-fn put_value(buffer: &mut [u8], at: usize, value: Option<u32>) -> usize
-    requires { at + 11 ≤ 2 ^ 32 }
-    ensures { (Laid (value_text value) buffer.old at buffer.new result) × (result ≤ at + 11) }
+fn push_value(text: &mut Text, value: Option<u32>)
+    requires { Room 11 text.old }
+    ensures { Appends (value_text value) 11 text.old text.new }
 {
-    match value {
-        Some(n) => {
-            let next = put(buffer, at, b"=");
-            put_number(buffer, next, n)
-        }
-        None => at,
+    if let Some(n) = value {
+        text.push_str("=");
+        push_number(text, n);
     }
 }
 
 // A space and the state that an automaton holds, or `-`.
-fn put_state(buffer: &mut [u8], at: usize, held: Option<u8>) -> usize
-    requires { at + 11 ≤ 2 ^ 32 }
-    ensures { (Laid (space_held held) buffer.old at buffer.new result) × (result ≤ at + 11) }
+fn push_state(text: &mut Text, held: Option<u8>)
+    requires { Room 4 text.old }
+    ensures { Appends (space_held held) 4 text.old text.new }
 {
-    let next = put(buffer, at, b" ");
+    text.push_str(" ");
     match held {
-        Some(state) => put_number(buffer, next, u32::from(state)),
-        None => put(buffer, next, b"-"),
+        Some(state) => push_number(text, state),
+        None => text.push_str("-"),
     }
 }
 
-// The state that automaton k holds.
-fn held(states: &[Option<u8>], k: usize) -> Option<u8>
-    ensures { result ≡ slice_index_or states.now k None }
-{
-    if k >= states.len() {
-        return None;
-    }
-    states[k]
-}
-
-impl<'a, 'b, 'c> Line<'a, 'b, 'c> {
-    // Whether signal s is an output.
-    fn is_output(&self, s: usize) -> bool
-        ensures { result ≡ output (chart_of self.now) s }
+impl Line<'_, '_, '_> {
+    // The name of signal s.
+    #[tactic(auto, using(crate::proofs::Pieces::name_short))]
+    fn name(&self, s: usize) -> &str
+        ensures named { result.now ≡ slice_index_or (chart_of self.now).names s [] }
+        ensures short { length result.now ≤ 8 }
     {
-        match self.chart.signal(s) {
-            Some(signal) => matches!(signal.kind, Kind::Output),
-            None => false,
-        }
+        str::from_utf8(self.chart.name(s).bytes).unwrap()
     }
 
     // Signal s, if it is a present output.
-    fn put_signal(&self, buffer: &mut [u8], at: usize, s: usize) -> usize
-        requires { (at + 20 ≤ 2 ^ 32) × (s < length (chart_of self.now).signals) }
-        ensures { (Laid (signal_text (chart_of self.now) self.now.statuses.now (values_of self.now) s) buffer.old at buffer.new result) × (result ≤ at + 20) }
+    #[tactic(auto, using(crate::proofs::Pieces::shown_text, std::proofs::lemmas::List::append_assoc))]
+    fn push_signal(&self, text: &mut Text, s: usize, signal: Signal)
+        requires room { Room 20 text.old }
+        requires signal { slice_get (chart_of self.now).signals s ≡ Some signal }
+        ensures { Appends (signal_text (chart_of self.now) self.now.statuses.now (values_of self.now) s) 20 text.old text.new }
     {
-        if !(self.is_output(s) & is_present(self.statuses, s)) {
-            return at;
+        if matches!(signal.kind, Kind::Output) && is_present(self.statuses, s) {
+            text.push_str(" ");
+            text.push_str(self.name(s));
+            push_value(text, value(&self.chart, self.fired, self.statuses, s));
         }
-        let named = put(buffer, at, b" ");
-        let valued = put(buffer, named, self.chart.name(s).bytes);
-        put_value(
-            buffer,
-            valued,
-            value(&self.chart, self.fired, self.statuses, s),
-        )
     }
 
     // The present outputs, in number order.
-    fn put_signals(&self, buffer: &mut [u8], at: usize) -> usize
-        requires { at + 1280 ≤ 2 ^ 32 }
-        ensures { (Laid (signals_text (chart_of self.now) self.now.statuses.now (values_of self.now)) buffer.old at buffer.new result) × (result ≤ at + 1280) }
+    fn push_signals(&self, text: &mut Text)
+        requires { Room 1280 text.old }
+        ensures { Appends (signals_text (chart_of self.now) self.now.statuses.now (values_of self.now)) 1280 text.old text.new }
     {
-        let mut next = at;
-        for s in 0..self.chart.signals() {
-            next = self.put_signal(buffer, next, s);
+        for (s, signal) in self.chart.all_signals().enumerate() {
+            self.push_signal(text, s, signal);
         }
-        next
     }
 
     // The states of the automata.
-    fn put_states(&self, buffer: &mut [u8], at: usize) -> usize
-        requires { at + 352 ≤ 2 ^ 32 }
-        ensures { (Laid (states_text (chart_of self.now) self.now.after.now.states) buffer.old at buffer.new result) × (result ≤ at + 352) }
+    fn push_states(&self, text: &mut Text)
+        requires { Room 128 text.old }
+        ensures { Appends (states_text (chart_of self.now) self.now.after.now.states) 128 text.old text.new }
     {
-        let mut next = at;
-        for k in 0..self.chart.automata() {
-            next = put_state(buffer, next, held(&self.after.states, k));
+        for held in self.after.states.iter().take(self.chart.automata()) {
+            push_state(text, *held);
         }
-        next
     }
 
-    // The whole line, from the front of a buffer on.
-    fn put_line(&self, buffer: &mut [u8]) -> usize
-        ensures laid { Laid (told_line self.now) buffer.old 0 buffer.new result }
-        ensures short { result ≤ length (decimal self.now.count) + 1284 + length (states_text (chart_of self.now) self.now.after.now.states) }
+    // The whole line.
+    #[tactic(auto, unfolding(crate::specs::Line::line_of))]
+    fn text(&self) -> Text
+        ensures told { result.bytes ≡ told_line self.now }
+        ensures short { array_string_len result ≤ length (decimal self.now.count) + 1284 + length (states_text (chart_of self.now) self.now.after.now.states) }
     {
-        let counted = put_number(buffer, 0, self.count);
-        let opened = put(buffer, counted, b":");
-        let signalled = self.put_signals(buffer, opened);
-        let parted = put(buffer, signalled, b" /");
-        let stated = self.put_states(buffer, parted);
-        put(buffer, stated, b"\n")
+        let mut text = Text::new();
+        push_number(&mut text, self.count);
+        text.push_str(":");
+        self.push_signals(&mut text);
+        text.push_str(" /");
+        self.push_states(&mut text);
+        text.push_str("\n");
+        text
     }
 
     // How long the line is.
+    #[tactic(auto, using(crate::proofs::Longest::counted_short))]
     pub fn length(&self) -> usize
         ensures exact { result ≡ length (told_line self.now) }
         ensures longest { self.now.count ≤ 1000000 → StatesWithin (chart_of self.now) self.now.after.now.states → result ≤ 1358 }
     {
-        self.put_line(&mut [])
+        self.text().len()
     }
 
     // Writes the line at the front of a buffer, if it fits.
@@ -160,10 +137,21 @@ impl<'a, 'b, 'c> Line<'a, 'b, 'c> {
         ensures answer { result ≡ write_answer (told_line self.now) (length buffer.old) }
         ensures after { buffer.new ≡ write_buffer (told_line self.now) buffer.old }
     {
-        let length = self.length();
+        let text = self.text();
+        let length = text.len();
         if buffer.len() < length {
             return Err(InstantFault::LongLine(length));
         }
-        Ok(self.put_line(buffer))
+        buffer[..length].copy_from_slice(text.as_bytes());
+        Ok(length)
+    }
+}
+
+// The line as text.
+impl fmt::Display for Line<'_, '_, '_> {
+    ghost output = { λ x. Some (told_line x) };
+
+    fn fmt<W: fmt::Write>(&self, f: &mut fmt::Formatter<W>) -> fmt::Result {
+        f.write_str(self.text().as_str())
     }
 }

@@ -1,19 +1,27 @@
-use Rattle.std.proofs.Common.{◌≡◌, ℕ, ◌+◌, ◌*◌, Bool, true, false, not, sym, ap, ◌∙◌, arith}
+use Rattle.std.proofs.Common.{◌≡◌, ℕ, ◌+◌, ◌-◌, ◌*◌, ◌<◌, Bool, List, not, eqb, take, drop, ap, ◌∙◌, arith, rules, tests}
+use Rattle.std.specs.Cmp.Lexicographic.{bytes_decides, pointwise}
+use Rattle.std.proofs.lemmas.Bool.Decides.{Decides-at}
+use Rattle.std.proofs.lemmas.Iterator.{YieldsList-from_slice}
+use Rattle.std.proofs.lemmas.Iterator.Search.{all_from_yields_List}
+use Rattle.std.proofs.lemmas.List.{drop-drop, drop-take}
 use Rattle.chart.specs.Check.{same_eight}
-use Rattle.chart.proofs.Below.{all_below_none, all_below_more, all_below_false}
+use Rattle.chart.specs.Places.{records_from}
+use Rattle.chart.proofs.Below.{all_below_same, made_passes}
+use Rattle.chart.proofs.SignalRules.{same_is}
 use Rattle.chart.proofs.check.new_name.Goals as goal
 
-pub loop-j-init : goal.loop-j-init
-loop-j-init c = all_below_none _
-
-pub returns-then-same_name : goal.returns-then-same_name
-returns-then-same_name c =
-    let test : ℕ → Bool = λ j. not (same_eight c.args.bytes.now (1 + 10 * j + 2) (1 + 10 * c.args.i + 2)) in
-    let no : test c.loop-j.j ≡ false = ap not (sym c.same_name.ensures ∙ c.if-same_name.true) in
-    sym (all_below_false test c.loop-j.j c.args.i (omega arith) no)
-
-pub loop-j-preserved : goal.loop-j-preserved
-loop-j-preserved c =
-    let test : ℕ → Bool = λ j. not (same_eight c.args.bytes.now (1 + 10 * j + 2) (1 + 10 * c.args.i + 2)) in
-    let yes : test c.loop-j.j ≡ true = ap not (sym c.same_name.ensures ∙ c.if-same_name.false) in
-    all_below_more test c.loop-j.j c.loop-j.invariant yes
+pub returns : goal.returns
+returns c =
+    let bs = c.args.bytes.now in
+    let at = 1 + 10 * c.args.i + 2 in
+    let name = take (at + 8 - at) (drop at bs) in
+    let eight : at + 8 - at ≡ 8 = omega arith in
+    let test : List ℕ → Bool = λ r. not (pointwise eqb (drop 2 r) name) in
+    let each : (k : ℕ) → k < c.args.i → test (take 10 (drop (1 + 10 * k) bs)) ≡ not (same_eight bs (1 + 10 * k + 2) at) = λ k l.
+    let field = drop-take 2 8 (drop (1 + 10 * k) bs) ∙ ap (take 8) (drop-drop 2 (1 + 10 * k) bs) in
+    ap not (same_is bs (1 + 10 * k + 2) at _ (omega arith) (omega arith)
+    (Decides-at _ _ (λ j. pointwise eqb (field j) (take (eight j) (drop at bs))) (bytes_decides _ _))) in
+    all_from_yields_List test _ _ c.all.result c.all.ensures.ran
+    (YieldsList-from_slice (records_from bs 10 1 c.args.i) (search rules)) (λ x b q k. search (rules, tests))
+    ∙ made_passes test (λ k. take 10 (drop (1 + 10 * k) bs)) c.args.i
+    ∙ all_below_same _ _ c.args.i each

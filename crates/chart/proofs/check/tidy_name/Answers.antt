@@ -1,35 +1,29 @@
-use Rattle.std.proofs.Common.{◌≡◌, ◌+◌, ◌-◌, Bool, true, false, sym, ap, ◌∙◌, inl, inr, arith}
-use Rattle.chart.proofs.Walk.{rest_of_name, name_ends, name_zero, name_letter, name_broken}
+use Rattle.std.proofs.Common.{◌&&◌, eqb, take, drop, arith, rules, tests, ap, sym, ◌∙◌}
+use Rattle.std.proofs.lemmas.Iterator.{YieldsList-from_slice}
+use Rattle.std.proofs.lemmas.Iterator.Search.{all_from_yields_List}
+use Rattle.std.specs.List.{list_all}
+use Rattle.chart.specs.Check.{is_letter}
+use Rattle.chart.specs.Decoded.{name_length}
+use Rattle.chart.proofs.Walk.{eight_bytes, tidy_by}
 use Rattle.chart.proofs.check.tidy_name.Goals as goal
-use Rattle.chart.proofs.check.tidy_name.Goals.{then-ended-via-then-ended, then-ended-via-else-ended+then-not-letter, then-b-eq0, else-b-eq0+else-ended+else-not-letter}
 
-pub returns-then-ended : goal.returns-then-ended
-returns-then-ended c =
+pub returns-then-all : goal.returns-then-all
+returns-then-all c =
     let bs = c.args.bytes.now in
-    let n = 8 - c.loop-k.k in
-    let p = c.args.at + c.loop-k.k in
-    elim c.then-ended.branch [
-      | then-ended-via-then-ended w ↦
-          sym (c.loop-k.invariant ∙ name_broken c.loop-k.ended bs n p (omega arith) c.if-b-eq0.false (inl w.if-ended.true))
-      | then-ended-via-else-ended+then-not-letter w ↦
-          sym (c.loop-k.invariant ∙ name_broken c.loop-k.ended bs n p (omega arith) c.if-b-eq0.false (inr (sym w.letter.ensures ∙ w.if-not-letter.true)))
-    ]
+    let field = eight_bytes bs c.args.at in
+    let long = c.length_of_name.ensures ∙ ap name_length field in
+    let letters = all_from_yields_List is_letter _ _ c.all.result c.all.ensures.ran
+    (YieldsList-from_slice _ (c.iter.ensures.rest ∙ c.split_at.ensures.front ∙ (λ i. take (long i) (field i)))) (λ x b q k. search (rules, tests)) in
+    let zeros = all_from_yields_List (λ b. eqb b 0) _ _ c.all-then-all.result c.all-then-all.ensures.ran
+    (YieldsList-from_slice _ (c.iter-then-all.ensures.rest ∙ c.split_at.ensures.back ∙ (λ i. drop (long i) (field i)))) (λ x b q k. search (rules, tests)) in
+    (λ i. (sym c.if-all.true ∙ letters) i && zeros i) ∙ sym (tidy_by bs 8 c.args.at (omega arith))
 
-pub loop-k-preserved : goal.loop-k-preserved
-loop-k-preserved c =
+pub returns-else-all : goal.returns-else-all
+returns-else-all c =
     let bs = c.args.bytes.now in
-    let k = c.loop-k.k in
-    let next : (ended : Bool) → rest_of_name ended bs (8 - k - 1) (c.args.at + k + 1) ≡ rest_of_name ended bs (8 - (k + 1)) (c.args.at + (k + 1)) =
-    λ ended. λ i. rest_of_name ended bs (let e : 8 - k - 1 ≡ 8 - (k + 1) = omega arith in e i) (let e : c.args.at + k + 1 ≡ c.args.at + (k + 1) = omega arith in e i) in
-    elim c.if-b-eq0.branch [
-      | then-b-eq0 w ↦ c.loop-k.invariant
-          ∙ name_zero c.loop-k.ended bs (8 - k) (c.args.at + k) (omega arith) w.if-b-eq0.true ∙ next true
-          ∙ ap (λ ended. rest_of_name ended bs (8 - (k + 1)) (c.args.at + (k + 1))) (sym w.ended-is)
-      | else-b-eq0+else-ended+else-not-letter w ↦ c.loop-k.invariant
-          ∙ ap (λ ended. rest_of_name ended bs (8 - k) (c.args.at + k)) w.if-ended.false
-          ∙ name_letter bs (8 - k) (c.args.at + k) (omega arith) w.if-b-eq0.false (sym w.letter.ensures ∙ w.if-not-letter.false) ∙ next false
-          ∙ ap (λ ended. rest_of_name ended bs (8 - (k + 1)) (c.args.at + (k + 1))) (sym (w.ended-is ∙ w.if-ended.false))
-    ]
-
-pub returns : goal.returns
-returns c = sym (c.loop-k.invariant ∙ name_ends c.loop-k.ended c.args.bytes.now (8 - c.loop-k.k) (c.args.at + c.loop-k.k) (omega arith))
+    let field = eight_bytes bs c.args.at in
+    let long = c.length_of_name.ensures ∙ ap name_length field in
+    let letters = all_from_yields_List is_letter _ _ c.all.result c.all.ensures.ran
+    (YieldsList-from_slice _ (c.iter.ensures.rest ∙ c.split_at.ensures.front ∙ (λ i. take (long i) (field i)))) (λ x b q k. search (rules, tests)) in
+    let zeros = list_all (λ b. eqb b 0) (drop (name_length (take 8 (drop c.args.at bs))) (take 8 (drop c.args.at bs))) in
+    c.if-all.false ∙ ap (λ b. b && zeros) (sym c.if-all.false ∙ letters) ∙ sym (tidy_by bs 8 c.args.at (omega arith))

@@ -1,12 +1,10 @@
-use Rattle.std.proofs.Common.{List, map, ap, ◌∙◌}
-use Rattle.std.proofs.lemmas.List.{take_all}
-use Rattle.reaction.specs.Next.{padded}
-use Rattle.reaction.specs.declared.next.Outcome.{Outcome}
-use Rattle.reaction.proofs.Settling.{states_more}
+use Rattle.std.proofs.Common.{get_or, None, sym, ◌∙◌, rules}
+use Rattle.reaction.specs.Next.{state_of}
+use Rattle.reaction.specs.declared.next.Outcome.TheVariants.{Gone}
+use Rattle.reaction.proofs.Settling.{array_of, padded_places}
 use Rattle.reaction.proofs.next.configuration_of.Goals as goal
 
-pub loop-k-preserved : goal.loop-k-preserved
-loop-k-preserved c = states_more c.args.outcomes.now c.loop-k.k c.loop-k.states c.loop-k-test.true c.requires c.loop-k.invariant
-
+-- the call is named c too, so that the search reads nothing else
 pub returns : goal.returns
-returns c = c.loop-k.invariant ∙ ap (λ (outs : List Outcome). padded (map (λ o. o.state) outs)) (take_all c.loop-k.k c.args.outcomes.now c.loop-k-test.false)
+returns c =
+    array_of _ _ (λ k. state_of (get_or c.args.outcomes.now k Gone)) 32 c.from_fn.result c.from_fn.ensures.items (λ k y q c. search rules) None ∙ sym (padded_places c.args.outcomes.now c.requires)

@@ -1,5 +1,7 @@
-use Rattle.std.proofs.Common.{[], sym}
+use Rattle.std.proofs.Common.{ap}
+use Rattle.engine.specs.Runner.{held}
+use Rattle.engine.proofs.Pasts.{past_start}
 use Rattle.engine.proofs.runner.Runner.start.Goals as goal
 
 pub invariant_of-result : goal.invariant_of-result
-invariant_of-result c = record { past = ∣ ([], λ i. record { count = 0; states = sym c.start-configuration.ensures i }) ∣₁ }
+invariant_of-result c = record { past = past_start _ _ (ap (held 0) c.start-configuration.ensures) }

@@ -1,74 +1,40 @@
 -- The front of the queue leaves; since no number stands twice, it waits no more.
-use Rattle.std.proofs.Common.{◌≡◌, ℕ, ◌+◌, ◌-◌, ◌%◌, true, not, ◌&&◌, eqb, List, ◌∷◌, get_or, drop, sym, refl, ap, ◌∙◌, arith}
+use Rattle.std.proofs.Common.{◌≡◌, ℕ, true, not, ◌&&◌, eqb, List, ◌∷◌, length, Some, sym, refl, ap, ◌∙◌, arith}
 use Rattle.std.proofs.lemmas.Bool.{and_parts, eq-eqb, or_left}
-use Rattle.fixpoint.specs.Arrival.{queue, front}
 use Rattle.fixpoint.specs.Marks.{marked}
 use Rattle.fixpoint.specs.Numbers.{has, distinct}
+use Rattle.fixpoint.specs.Ring.{queue_of}
 use Rattle.fixpoint.specs.Worklist.{without_number}
 use Rattle.fixpoint.specs.declared.arrival.ArrivalOrder.{ArrivalOrder}
 use Rattle.fixpoint.proofs.Marking.{marked_few}
-use Rattle.fixpoint.proofs.Queues.{waiting, queue_none, queue_front, has_rest}
+use Rattle.fixpoint.proofs.Queues.{front_first, has_rest}
 use Rattle.fixpoint.proofs.Tally.{tally_without}
 use Rattle.fixpoint.proofs.arrival.ArrivalOrderWorklist.take.Goals as goal
 
--- the number that has waited longest
-abbrev first : ArrivalOrder → ℕ
-first w = get_or w.ring w.head 0
+-- x is taken, and ys are left
+module _ (w : ArrivalOrder) (x : ℕ) (ys : List ℕ) (e : queue_of w.ring ≡ x ∷ ys) where
+  -- no number stands twice
+  once_all : distinct (x ∷ ys) ≡ true
+  once_all = sym (ap distinct e) ∙ w.once
 
--- the numbers behind it
-abbrev others : ArrivalOrder → List ℕ
-others w = queue w.ring ((w.head + 1) % 128) (w.len - 1)
+  -- x waits
+  waits : has x (queue_of w.ring) ≡ true
+  waits = ap (has x) e ∙ or_left (eqb x x) (has x ys) (eq-eqb x x refl)
 
--- a number is taken
-module _ (w : ArrivalOrder) (some : w.len ≡ 0 → ⊥) where
-  -- the queue is the front and the others
-  in_front : waiting w ≡ first w ∷ others w
-  in_front = queue_front w.ring w.head w.len some
+  -- the others are all but x
+  no_more : (j : ℕ) → has j ys ≡ without_number x (λ k. has k (queue_of w.ring)) j
+  no_more j = has_rest x ys once_all j ∙ ap (λ b. b && not (eqb j x)) (sym (ap (has j) e))
 
-  -- none of them stands twice
-  once_all : distinct (first w ∷ others w) ≡ true
-  once_all = sym (ap distinct in_front) ∙ w.once
-
-  -- the front waits
-  waits : has (first w) (waiting w) ≡ true
-  waits = ap (has (first w)) in_front ∙ or_left (eqb (first w) (first w)) (has (first w) (others w)) (eq-eqb (first w) (first w) refl)
-
-  -- the others are all but the front
-  no_more : (j : ℕ) → has j (others w) ≡ without_number (first w) (λ k. has k (waiting w)) j
-  no_more j = has_rest (first w) (others w) once_all j ∙ ap (λ b. b && not (eqb j (first w))) (sym (ap (has j) in_front))
-
-pub returns-then-self-eq0 : goal.returns-then-self-eq0
-returns-then-self-eq0 c =
+pub invariant_of-self-2 : goal.invariant_of-self-2
+invariant_of-self-2 c =
     let w = c.args.self.now in
-    let e : waiting w ≡ queue w.ring w.head 0 = ap (queue w.ring w.head) c.if-self-eq0.true in
-    let none = e ∙ queue_none w.ring w.head in
+    let x = c.from-i.result in
+    let ys = queue_of c.pop.new.self in
+    let oldest = ap Some c.from-i.ensures ∙ c.in_ok-pop.ensures.oldest in
+    let e = front_first (queue_of w.ring) ys x oldest c.pop.ensures.rest in
+    let mark : marked w.marks x ≡ true = w.agree x ∙ waits w x ys e in
     record {
-      taken = ((λ j. ap (has j) none), refl);
-      longest = sym (ap front none);
-      queued = none ∙ sym (ap (drop 1) none);
-    }
-
-pub invariant_of-self : goal.invariant_of-self
-invariant_of-self c =
-    let w = c.args.self.now in
-    let some = c.if-self-eq0.false in
-    let p = marked w.marks in
-    let q = marked c.without-self.result in
-    let mark : p (first w) ≡ true = w.agree (first w) ∙ waits w some in
-    let less = c.without-self.ensures in
-    record {
-      inside = omega arith;
-      agree = λ j. less j ∙ ap (λ b. b && not (eqb j (first w))) (w.agree j) ∙ sym (no_more w some j);
-      once = (and_parts (not (has (first w) (others w))) (distinct (others w)) (once_all w some)).1;
-      counted = omega (arith, w.counted, tally_without p q (first w) 128 (marked_few w.marks (first w) mark) mark less);
-    }
-
-pub returns : goal.returns
-returns c =
-    let w = c.args.self.now in
-    let some = c.if-self-eq0.false in
-    record {
-      taken = (waits w some, no_more w some);
-      longest = sym (ap front (in_front w some));
-      queued = sym (ap (drop 1) (in_front w some));
+      agree = λ j. c.without-self.ensures j ∙ ap (λ b. b && not (eqb j x)) (w.agree j) ∙ sym (no_more w x ys e j);
+      once = (and_parts (not (has x ys)) (distinct ys) (once_all w x ys e)).1;
+      counted = omega (arith, w.counted, ap length e, tally_without (marked w.marks) (marked c.without-self.result) x 128 (marked_few w.marks x mark) mark c.without-self.ensures);
     }

@@ -1,36 +1,21 @@
-use Rattle.std.proofs.Common.{sym, refl, arith}
-use Rattle.std.proofs.lemmas.Bool.{or_right}
-use Rattle.chart.specs.Decoded.{decode, transition}
-use Rattle.status.specs.Equations.{mentions}
-use Rattle.status.proofs.Parts.{some_yes, some_no, some_fails, some_none}
+use Rattle.std.proofs.Common.{Bool, ◌&&◌, ◌||◌, eqb, filter, take, ap, ◌∙◌, rules}
+use borrow.Author.Tests.{tests}
+use Rattle.std.proofs.lemmas.Iterator.Search.{any_from_yields_List}
+use Rattle.bits.specs.Members.{some}
+use Rattle.chart.specs.declared.transition.Transition.{Transition}
+use Rattle.status.specs.Equations.{live, mentions}
+use Rattle.status.specs.StatusSystem.{chart_of, states_of}
+use Rattle.chart.proofs.Chains.{over_first}
+use Rattle.status.proofs.Parts.{some_kept}
 use Rattle.status.proofs.equations.StatusSystem.bears.Goals as goal
-use Rattle.status.proofs.equations.StatusSystem.bears.Goals.{else-rival-via-then-rival+else-mentions, else-rival-via-else-rival}
 
-pub loop-e-init : goal.loop-e-init
-loop-e-init c = refl
-
-pub returns-then-mentions : goal.returns-then-mentions
-returns-then-mentions c =
-    let chart = decode c.args.self.now.chart.bytes.now in
-    let states = c.args.self.now.configuration.now.states in
-    let own = transition chart c.args.k in
-    let p = mentions c.args.j in
-    sym (or_right (p own) _ (some_yes states own.automaton chart.transitions c.args.k (omega arith) c.loop-e.e p c.loop-e-test.true c.rival.ensures c.if-rival.true c.mentions.ensures c.if-mentions.true c.loop-e.invariant))
-
-pub loop-e-preserved : goal.loop-e-preserved
-loop-e-preserved c =
-    let chart = decode c.args.self.now.chart.bytes.now in
-    let states = c.args.self.now.configuration.now.states in
-    let own = (transition chart c.args.k).automaton in
-    let p = mentions c.args.j in
-    elim c.else-rival.branch [
-      | else-rival-via-then-rival+else-mentions w ↦ some_fails states own chart.transitions c.args.k (omega arith) c.loop-e.e p c.loop-e-test.true w.mentions.ensures w.if-mentions.false c.loop-e.invariant
-      | else-rival-via-else-rival w ↦ some_no states own chart.transitions c.args.k (omega arith) c.loop-e.e p c.loop-e-test.true c.rival.ensures w.if-rival.false c.loop-e.invariant
-    ]
-
-pub returns : goal.returns
-returns c =
-    let chart = decode c.args.self.now.chart.bytes.now in
-    let own = transition chart c.args.k in
-    let p = mentions c.args.j in
-    some_none c.args.self.now.configuration.now.states own.automaton chart.transitions c.args.k (omega arith) c.loop-e.e p (p own) c.loop-e-test.false c.mentions-2.ensures c.loop-e.invariant
+pub returns-else-mentions : goal.returns-else-mentions
+returns-else-mentions c =
+    let self = c.args.self.now in
+    let t = c.args.t.now in
+    let ts = take c.args.k (chart_of self).transitions in
+    let rival : Transition → Bool = λ e. live (states_of self) e && eqb e.automaton t.automaton in
+    let earlier = over_first (chart_of self).transitions c.args.k c.take.ensures.source c.take.ensures.count c.all_transitions.ensures in
+    any_from_yields_List (λ e. rival e && mentions c.args.j e) c.any.new.self _ c.any.result c.any.ensures.ran earlier (λ x b q k. search (rules, tests))
+    ∙ some_kept rival (mentions c.args.j) ts
+    ∙ ap (λ b. b || some (mentions c.args.j) (filter rival ts)) c.if-mentions.ensures

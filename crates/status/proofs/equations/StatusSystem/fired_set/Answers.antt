@@ -1,42 +1,62 @@
-use Rattle.std.proofs.Common.{◌≡◌, ℕ, ◌<◌, Bool, false, ◌&&◌, ltb, length, sym, refl, ap, ◌∙◌, arith}
+use Rattle.std.proofs.Common.{◌≡◌, ◌&&◌, ltb, slice_index_or, take, length, sym, ap, ◌∙◌, arith}
 use Rattle.std.proofs.lemmas.Bool.{and_left, le-ltb}
-use Rattle.chart.specs.Decoded.{decode}
-use Rattle.fixpoint.specs.Marks.{marked}
-use Rattle.fixpoint.proofs.Marking.{marked_none}
-use Rattle.fixpoint.proofs.Waiting.{waits_more, waits_less}
+use Rattle.std.proofs.lemmas.List.{length_push, length-take}
 use Rattle.chart.proofs.Decoding.{few_signals, few_transitions}
-use Rattle.status.specs.Equations.{assigned}
+use Rattle.fixpoint.specs.Marks.{marked}
 use Rattle.status.specs.Fired.{fires}
+use Rattle.status.specs.Status.{unknown}
+use Rattle.status.specs.StatusSystem.{chart_of, states_of}
 use Rattle.status.specs.Words.{told}
-use Rattle.status.proofs.Firing.{marked_too}
+use Rattle.status.specs.declared.status.Status.{Status}
+use Rattle.chart.proofs.Chains.{count_fits, numbered_end, numbered_turn}
+use Rattle.status.proofs.Firing.{fires_next}
+use Rattle.status.proofs.Reading.{none_added, one_added}
 use Rattle.status.proofs.equations.StatusSystem.fired_set.Goals as goal
-use Rattle.status.proofs.equations.StatusSystem.fired_set.Goals.{then-live-firing, else-live-firing}
 
 pub gather-words-requires : goal.gather-words-requires
-gather-words-requires c = let few = few_signals c.args.self.now.chart.bytes.now c.args.self.now.chart.layout in (omega arith, omega arith)
+gather-words-requires c =
+    let few = few_signals c.args.self.now.chart.bytes.now c.args.self.now.chart.layout in
+    omega (arith, length-take {A = Status})
+
+pub loop-k-init-derived : goal.loop-k-init-derived
+loop-k-init-derived c =
+    let counted = c.into_iter-k-iterator in
+    ((tt, tt, count_fits counted.result.count counted.result.iter (ap (λ e. e.count) counted.ensures.into_iter_gives ∙ c.enumerate-k-items.ensures.count)), tt)
 
 pub loop-k-init : goal.loop-k-init
-loop-k-init c j = marked_none _ refl refl j ∙ sym (and_left (ltb j 0) _ (le-ltb j 0 (omega arith)))
+loop-k-init c j = c.new-set.ensures j ∙ sym (and_left (ltb j 0) _ (le-ltb j 0 (omega arith)))
+
+pub loop-k-preserved-then-live-firing : goal.loop-k-preserved-then-live-firing
+loop-k-preserved-then-live-firing c j =
+    let self = c.args.self.now in
+    let ts = (chart_of self).transitions in
+    let u = told c.gather-words.result in
+    let n = length c.loop-k.yielded in
+    let turn = numbered_turn ts c.into_iter-k-iterator.ensures.into_iter_gives c.enumerate-k-items.ensures.source c.enumerate-k-items.ensures.count c.all_transitions.ensures
+    c.loop-k.yielded c.loop-k.k-iterator c.loop-k.yielded_by c.next.result c.next.new.self (c.in-Some.k, c.in-Some.t) c.in-Some.is c.next.ensures.steps in
+    let next = fires_next (chart_of self) (states_of self) u n c.in-Some.k c.in-Some.t turn c.live.ensures c.firing.ensures in
+    let few = few_transitions self.chart.bytes.now self.chart.layout in
+    one_added (fires (chart_of self) (states_of self) u) (marked c.loop-k.set j) n _ j (length_push c.loop-k.yielded (c.in-Some.k, c.in-Some.t)) (c.loop-k.invariant j)
+    (marked c.with-set.result j) c.in-Some.k next.1 (omega arith) (sym next.2 ∙ c.if-live-firing.true) (c.with-set.ensures j)
 
 pub loop-k-preserved : goal.loop-k-preserved
 loop-k-preserved c j =
     let self = c.args.self.now in
-    let test : ℕ → Bool = fires (decode self.chart.bytes.now) self.configuration.now.states (told c.gather-words.result) in
-    let k = c.loop-k.k in
-    let few = few_transitions self.chart.bytes.now self.chart.layout in
-    let small : k < 128 = omega (arith, c.transitions-k-end.ensures) in
-    let known : (c.live.result && c.firing.result.present) ≡ test k = λ i. c.live.ensures i && (c.firing.ensures i).present in
-    elim c.if-live-firing.branch [
-      | then-live-firing w ↦ ap (λ m. marked m j) w.set-is
-          ∙ waits_more (λ _. false) test (marked c.loop-k.set j) (marked w.with-set.result j) k j (sym known ∙ w.if-live-firing.true) (c.loop-k.invariant j) (marked_too _ _ j k small (w.with-set.ensures j))
-      | else-live-firing w ↦ ap (λ m. marked m j) w.set-is ∙ waits_less (λ _. false) test (marked c.loop-k.set j) k j (sym known ∙ w.if-live-firing.false) (c.loop-k.invariant j)
-    ]
+    let ts = (chart_of self).transitions in
+    let u = told c.gather-words.result in
+    let n = length c.loop-k.yielded in
+    let turn = numbered_turn ts c.into_iter-k-iterator.ensures.into_iter_gives c.enumerate-k-items.ensures.source c.enumerate-k-items.ensures.count c.all_transitions.ensures
+    c.loop-k.yielded c.loop-k.k-iterator c.loop-k.yielded_by c.next.result c.next.new.self (c.in-Some.k, c.in-Some.t) c.in-Some.is c.next.ensures.steps in
+    let next = fires_next (chart_of self) (states_of self) u n c.in-Some.k c.in-Some.t turn c.live.ensures c.firing.ensures in
+    none_added (fires (chart_of self) (states_of self) u) (marked c.loop-k.set j) n _ j (length_push c.loop-k.yielded (c.in-Some.k, c.in-Some.t)) (c.loop-k.invariant j)
+    (sym next.2 ∙ c.if-live-firing.false)
 
 pub returns : goal.returns
-returns c j =
+returns c k =
     let self = c.args.self.now in
-    let bs = self.chart.bytes.now in
-    let n = length (decode bs).signals in
-    let same : told c.gather-words.result ≡ assigned n c.args.area.now = λ i s. (c.gather-words.ensures s ∙ ap (λ m. assigned m c.args.area.now s) c.signals.ensures) i in
-    let end : c.loop-k.k ≡ length (decode bs).transitions = omega (arith, c.transitions-k-end.ensures) in
-    c.loop-k.invariant j ∙ (λ i. ltb j (end i) && fires (decode bs) self.configuration.now.states (same i) j)
+    let ts = (chart_of self).transitions in
+    let all = numbered_end ts c.into_iter-k-iterator.ensures.into_iter_gives c.enumerate-k-items.ensures.source c.enumerate-k-items.ensures.count c.all_transitions.ensures
+    c.loop-k.yielded c.loop-k.k-iterator c.loop-k.yielded_by c.next.result c.next.new.self c.in-None.is c.next.ensures.steps in
+    let words : (s : _) → told c.gather-words.result s ≡ slice_index_or (take (length (chart_of self).signals) c.args.area.now) s unknown =
+    λ s. c.gather-words.ensures s ∙ ap (λ n. slice_index_or (take n c.args.area.now) s unknown) c.signals.ensures in
+    c.loop-k.invariant k ∙ (λ i. ltb k (all i) && fires (chart_of self) (states_of self) (λ s. words s i) k)

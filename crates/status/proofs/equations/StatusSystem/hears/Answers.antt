@@ -1,28 +1,20 @@
-use Rattle.std.proofs.Common.{sym, refl, arith}
-use Rattle.chart.specs.Decoded.{decode}
-use Rattle.status.proofs.Parts.{hears_yes, hears_no, hears_fails, hears_none}
+use Rattle.std.proofs.Common.{[], refl, ◌&&◌, take, ◌∙◌, rules}
+use borrow.Author.Tests.{tests}
+use Rattle.std.proofs.lemmas.Iterator.Search.{any_from_yields_List}
+use Rattle.status.specs.Equations.{bears, emits}
+use Rattle.status.specs.StatusSystem.{chart_of, states_of}
+use Rattle.chart.proofs.Chains.{count_fits, over_numbered}
+use Rattle.status.proofs.Parts.{hears_numbered}
 use Rattle.status.proofs.equations.StatusSystem.hears.Goals as goal
-use Rattle.status.proofs.equations.StatusSystem.hears.Goals.{else-emits-via-then-emits+else-bears, else-emits-via-else-emits}
 
-pub loop-k-init : goal.loop-k-init
-loop-k-init c = refl
-
-pub returns-then-bears : goal.returns-then-bears
-returns-then-bears c =
-    let ts = (decode c.args.self.now.chart.bytes.now).transitions in
-    let states = c.args.self.now.configuration.now.states in
-    sym (hears_yes states ts c.args.s c.loop-k.k c.args.j (omega arith) c.emits.ensures c.if-emits.true c.bears.ensures c.if-bears.true c.loop-k.invariant)
-
-pub loop-k-preserved : goal.loop-k-preserved
-loop-k-preserved c =
-    let ts = (decode c.args.self.now.chart.bytes.now).transitions in
-    let states = c.args.self.now.configuration.now.states in
-    elim c.else-emits.branch [
-      | else-emits-via-then-emits+else-bears w ↦ hears_fails states ts c.args.s c.loop-k.k c.args.j (omega arith) w.bears.ensures w.if-bears.false c.loop-k.invariant
-      | else-emits-via-else-emits w ↦ hears_no states ts c.args.s c.loop-k.k c.args.j (omega arith) c.emits.ensures w.if-emits.false c.loop-k.invariant
-    ]
+pub any-requires-clause-can : goal.any-requires-clause-can
+any-requires-clause-can c = (tt, tt, count_fits c.enumerate.result.count c.enumerate.result.iter c.enumerate.ensures.count)
 
 pub returns : goal.returns
 returns c =
-    let ts = (decode c.args.self.now.chart.bytes.now).transitions in
-    sym (hears_none c.args.self.now.configuration.now.states ts c.args.s c.loop-k.k c.args.j (omega arith) c.loop-k.invariant)
+    let self = c.args.self.now in
+    let states = states_of self in
+    let ts = (chart_of self).transitions in
+    let numbered = over_numbered ts c.enumerate.ensures.source c.enumerate.ensures.count c.all_transitions.ensures in
+    any_from_yields_List (λ p. emits states c.args.s p.1 && bears states c.args.j (take p.0 ts) p.1) c.any.new.self _ c.any.result c.any.ensures.ran numbered (λ x b q k. search (rules, tests))
+    ∙ hears_numbered states c.args.s ts c.args.j [] ts 0 refl refl
