@@ -1,10 +1,11 @@
 -- What is read of the sets of an area. Assumes nothing.
-use Rattle.std.proofs.Common.{◌≡◌, ℕ, ◌+◌, ◌<◌, ◌≤◌, Bool, true, false, ◌&&◌, ◌||◌, eqb, ltb, List, length, get_or, Some, None, Option, unwrap_or, sym, ap, ◌∙◌, ⊎_elim, arith}
+use Rattle.std.proofs.Common.{◌≡◌, ℕ, ◌<◌, ◌≤◌, Bool, false, ◌&&◌, ltb, List, length, get_or, Some, None, Option, unwrap_or, sym, ap, ◌∙◌, ⊎_elim, arith}
 use Rattle.std.specs.Option.{MatchOption, option_map}
 use Rattle.std.proofs.lemmas.List.{get_or_past}
-use Rattle.std.proofs.lemmas.Bool.{cases_eq, cases_lt}
+use Rattle.std.proofs.lemmas.Bool.{cases_lt}
 use Rattle.std.proofs.lemmas.Bool.Decides.{nat_tests}
 use Rattle.bits.proofs.Digits.{bit_zero}
+pub use Rattle.bits.proofs.Masks.{gathered_no, gathered_yes}
 use Rattle.bits.specs.Set.{has, none}
 use Rattle.bits.specs.declared.set.NumberSet.{NumberSet as StateSet}
 
@@ -13,20 +14,6 @@ pub read_has : {A : Type 0} (set : A → StateSet) (o : Option A) (s : ℕ) {P :
     → r ≡ has (unwrap_or (option_map set o) none) s
 read_has set None s h f = h ∙ sym (bit_zero s)
 read_has set (Some a) s h f = f a h
-
--- the bits of the numbers below n that pass: number n does too
-pub gathered_yes : (test : ℕ → Bool) (n j : ℕ) {old new : Bool} → n < 64 → test n ≡ true → old ≡ (ltb j n && test j) → new ≡ (old || (ltb n 64 && eqb j n)) → new ≡ (ltb j (n + 1) && test j)
-gathered_yes test n j few passes before after = ⊎_elim
-    (λ (e : j ≡ n). let here = ap test e ∙ passes in grind (arith, nat_tests))
-    (λ (d : j ≡ n → ⊥). grind (arith, nat_tests))
-    (cases_eq j n)
-
--- it does not
-pub gathered_no : (test : ℕ → Bool) (n j : ℕ) {old : Bool} → test n ≡ false → old ≡ (ltb j n && test j) → old ≡ (ltb j (n + 1) && test j)
-gathered_no test n j fails before = ⊎_elim
-    (λ (e : j ≡ n). let here = ap test e ∙ fails in grind (arith, nat_tests))
-    (λ (d : j ≡ n → ⊥). grind (arith, nat_tests))
-    (cases_eq j n)
 
 -- none is left
 pub gathered_all : (sets : List StateSet) (n j : ℕ) {old : Bool} → length sets ≤ n → old ≡ (ltb j n && has (get_or sets j none) 0) → old ≡ has (get_or sets j none) 0

@@ -1,5 +1,5 @@
 -- The bits of a mask that is made of a test; words with the same bits are equal. Assumes nothing.
-use Rattle.std.proofs.Common.{◌≡◌, ℕ, zero, suc, ◌^◌, ◌<◌, Bool, true, false, cond, ◌&&◌, ◌||◌, eqb, ltb, ◌⊎◌, sym, refl, ap, ◌∙◌, inl, inr, ⊎_elim, pow-suc, arith}
+use Rattle.std.proofs.Common.{◌≡◌, ℕ, zero, suc, ◌+◌, ◌^◌, ◌<◌, Bool, true, false, cond, ◌&&◌, ◌||◌, eqb, ltb, ◌⊎◌, sym, refl, ap, ◌∙◌, inl, inr, ⊎_elim, pow-suc, arith}
 use lib.Bits.{bit_or, or_lt}
 use lib.Pow.{pow-lt}
 use Rattle.std.proofs.lemmas.Bool.{and_left, cases_Bool, cases_eq, cond-false, cond-true, le-ltb}
@@ -68,3 +68,17 @@ mask_cases test (suc n) = ⊎_elim
     (λ (p : (s : ℕ) × (s < n) × (test s ≡ true)). inr (p.0, omega (arith, p.1), p.2))
     (mask_cases test n))
     (cases_Bool (test n))
+
+-- the bits of the numbers below n that pass: number n does too
+pub gathered_yes : (test : ℕ → Bool) (n j : ℕ) {old new : Bool} → n < 64 → test n ≡ true → old ≡ (ltb j n && test j) → new ≡ (old || (ltb n 64 && eqb j n)) → new ≡ (ltb j (n + 1) && test j)
+gathered_yes test n j few passes before after = ⊎_elim
+    (λ (e : j ≡ n). let here = ap test e ∙ passes in grind (arith, nat_tests))
+    (λ (d : j ≡ n → ⊥). grind (arith, nat_tests))
+    (cases_eq j n)
+
+-- it does not
+pub gathered_no : (test : ℕ → Bool) (n j : ℕ) {old : Bool} → test n ≡ false → old ≡ (ltb j n && test j) → old ≡ (ltb j (n + 1) && test j)
+gathered_no test n j fails before = ⊎_elim
+    (λ (e : j ≡ n). let here = ap test e ∙ fails in grind (arith, nat_tests))
+    (λ (d : j ≡ n → ⊥). grind (arith, nat_tests))
+    (cases_eq j n)

@@ -1,6 +1,8 @@
 -- The test of a signal against its rules: the bytes of a name, the rules of one signal, and those of all signals. Assumes nothing.
-use Rattle.std.proofs.Common.{◌≡◌, ℕ, zero, suc, ◌+◌, ◌-◌, ◌<◌, ◌≤◌, Bool, true, false, cond, not, ◌||◌, eqb, leb, List, length, get_or, take, drop, Decides, sym, refl, ap, ◌∙◌, subst, ⊎_elim, arith}
-use Rattle.std.proofs.lemmas.List.{at_drop_more, ext_get_or, get_or-drop, get_or-take, length-drop, length-take, length-take-le}
+use Rattle.std.proofs.Common.{◌≡◌, ℕ, zero, suc, ◌+◌, ◌-◌, ◌<◌, ◌≤◌, Bool, true, false, cond, not, ◌||◌, eqb, leb, List, length, get_or, take, drop, w64, Decides, sym, refl, ap, ◌∙◌, subst, ⊎_elim, arith}
+use Rattle.std.specs.Int.{from_be_bytes, to_be_bytes}
+use Rattle.std.proofs.lemmas.Nat.{be_bytes_8}
+use Rattle.std.proofs.lemmas.List.{at_drop_more, ext_get_or, get_or-drop, get_or-take, get_or_past, length-drop, length-take, length-take-le}
 use Rattle.std.proofs.lemmas.List.Sums.{prefix_len-le-length}
 use Rattle.std.proofs.lemmas.Bool.{and_from, and_parts, cases_Bool, cases_eq, cases_lt, eq-eqb, eqb-true}
 use Rattle.std.proofs.lemmas.Bool.Decides.{Decides-and, Decides-eqb, Decides-like, Decides-not, nat_tests, same_from_decides}
@@ -221,6 +223,21 @@ same_is bs p q r h l d = same_from_decides r (same_eight bs p q)
     (eight_alike bs p q h l)
     d)
     (same_decides bs p q)
+
+-- two numbers of eight bytes each are the same exactly if the bytes are
+pub eight_decide : (bs : List ℕ) (p q : ℕ) → p + 8 ≤ length bs → q + 8 ≤ length bs → ((i : ℕ) → get_or bs i 0 < 256)
+    → Decides (eqb (from_be_bytes w64 (take 8 (drop p bs))) (from_be_bytes w64 (take 8 (drop q bs)))) (take 8 (drop p bs) ≡ take 8 (drop q bs))
+eight_decide bs p q h l small =
+    let whole : (r : ℕ) → r + 8 ≤ length bs → length (take 8 (drop r bs)) ≡ 8 = λ r k. length-take-le 8 (drop r bs) (omega (arith, length-drop r bs)) in
+    let few : (r : ℕ) → r + 8 ≤ length bs → (i : ℕ) → get_or (take 8 (drop r bs)) i 0 < 256 = λ r k i. ⊎_elim
+    (λ (m : i < 8). let is : get_or (take 8 (drop r bs)) i 0 ≡ get_or bs (r + i) 0 = get_or-take 8 (drop r bs) i 0 m ∙ get_or-drop r bs i 0 in omega (arith, small (r + i)))
+    (λ (m : 8 ≤ i). let none : get_or (take 8 (drop r bs)) i 0 ≡ 0 = get_or_past (take 8 (drop r bs)) i 0 (omega (arith, whole r k)) in omega arith)
+    (cases_lt i 8) in
+    let back : (r : ℕ) → r + 8 ≤ length bs → to_be_bytes w64 (from_be_bytes w64 (take 8 (drop r bs))) ≡ take 8 (drop r bs) = λ r k. be_bytes_8 (take 8 (drop r bs)) _ (whole r k) (few r k) refl in
+    Decides-like _
+    (λ e. sym (back p h) ∙ ap (to_be_bytes w64) e ∙ back q l)
+    (λ e. ap (from_be_bytes w64) e)
+    (Decides-eqb _ _)
 
 -- the same eight bytes are the same name
 same_from_alike : (bs : List ℕ) (i j : ℕ) → signal_place i + 10 ≤ length bs → signal_place j + 10 ≤ length bs → Alike bs i j → name_at bs i ≡ name_at bs j

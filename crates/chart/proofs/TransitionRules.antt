@@ -1,15 +1,15 @@
 -- The test of a transition passes exactly if the rules of the layout hold of it. Assumes nothing.
-use Rattle.std.proofs.Common.{◌≡◌, ℕ, ◌+◌, ◌<◌, Bool, true, false, cond, not, ◌&&◌, eqb, List, Decides, refl, arith}
+use Rattle.std.proofs.Common.{◌≡◌, ℕ, ◌+◌, ◌*◌, ◌<◌, Bool, true, false, cond, not, ◌&&◌, eqb, ltb, bit_and, List, Decides, sym, refl, ◌∙◌, arith}
 use Rattle.std.proofs.lemmas.Bool.{and_from, and_parts, cond-true, lt-ltb, ltb-true}
-use Rattle.std.proofs.lemmas.Bool.Decides.{Decides-and, Decides-not}
+use Rattle.std.proofs.lemmas.Bool.Decides.{Decides-and, Decides-like, Decides-not}
 use Rattle.bits.specs.Bits.{bit}
-use Rattle.chart.specs.Check.{masks_good, no_input, transition_good}
+use Rattle.chart.specs.Check.{AreInputs, masks_good, no_input, transition_good}
 use Rattle.chart.specs.Codes.{kind_of}
 use Rattle.chart.specs.Decoded.{signal_at, transition_at}
 use Rattle.chart.specs.Layout.{Mask, TransitionRule}
 use Rattle.chart.specs.Places.{automata_at, byte, signal_count, signal_place, transitions_at}
 use Rattle.chart.specs.declared.signal.Kind.TheVariants.{Input, Output, Local}
-use Rattle.chart.proofs.Below.{all_below_from, all_below_true}
+use Rattle.chart.proofs.Below.{all_below_from, all_below_is, all_below_true}
 use Rattle.bits.proofs.Members.{apart_decides, mask_decides}
 
 -- of the three kinds only the first is the input
@@ -39,6 +39,19 @@ no_input_decides bs mask =
       λ e s l. (input_set_decides bs mask s).0 (all_below_true free (signal_count bs) e s l),
       λ f. all_below_from free (signal_count bs) (λ s l. (input_set_decides bs mask s).1 (f s l)),
     )
+
+-- the same test by the mask of the inputs
+pub no_input_by : (bs : List ℕ) (emitted inputs : ℕ) → AreInputs bs inputs → eqb (bit_and emitted inputs) 0 ≡ no_input bs emitted
+no_input_by bs emitted inputs are =
+    let n = byte bs 0 in
+    let input : ℕ → Bool = λ s. eqb (byte bs (1 + 10 * s)) 0 in
+    let both : (s : ℕ) → Decides (not (bit emitted s && input s)) (((bit emitted s ≡ true) × (input s ≡ true)) → ⊥) = λ s.
+    Decides-not (bit emitted s && input s) (Decides-and (bit emitted s) (input s) (λ e. e, λ e. e) (λ e. e, λ e. e)) in
+    all_below_is (λ s. not (bit emitted s && input s)) n (eqb (bit_and emitted inputs) 0)
+    (Decides-like (eqb (bit_and emitted inputs) 0)
+    (λ h s l. (both s).1 (λ p. h s p.0 (are s ∙ and_from (ltb s n) (input s) (lt-ltb s n l) p.1)))
+    (λ q s e i. let parts = and_parts (ltb s n) (input s) (sym (are s) ∙ i) in (both s).0 (q s (ltb-true s n parts.0)) (e, parts.1))
+    (apart_decides emitted inputs))
 
 -- the rules of a transition's masks
 abbrev MaskRules : List ℕ → ℕ → ℕ → ℕ → Type 0

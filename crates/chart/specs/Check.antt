@@ -68,6 +68,10 @@ automaton_good bs p k =
 abbrev pub no_input : List ℕ → ℕ → Bool
 no_input bs emitted = all_below (λ s. not (bit emitted s && byte bs (1 + 10 * s) == 0)) (byte bs 0)
 
+-- the bits of a mask are those of the inputs among the signals
+abbrev pub AreInputs : List ℕ → ℕ → Type 0
+AreInputs bs inputs = (s : ℕ) → bit inputs s ≡ (nat_lt s (byte bs 0) && byte bs (1 + 10 * s) == 0)
+
 abbrev pub state_good : List ℕ → ℕ → ℕ → ℕ → Bool
 state_good bs p automaton state = nat_lt state (byte bs (p + 1 + 4 * automaton + 2))
 

@@ -1,6 +1,7 @@
 // The view on a chart file that keeps the layout.
 ghost use Rattle.std.specs.Prelude.{◌≡◌, ◌+◌, ◌*◌, ◌<◌, ◌≤◌, length, take, drop, MatchResult};
 ghost use Rattle.std.specs.List.{slice_get};
+ghost use Rattle.std.specs.Option.{option_map};
 ghost use Rattle.chart.specs.Check.{verdict};
 ghost use Rattle.chart.specs.Decoded.{decode, input};
 ghost use Rattle.chart.specs.Layout.{Layout};
@@ -137,6 +138,55 @@ impl<'a> Chart<'a> {
         ensures { result ≡ slice_get (decode self.now.bytes.now).transitions i }
     {
         record(self.bytes, self.transitions_at(), i).map(Transition::from)
+    }
+
+    // The automaton of transition i.
+    pub fn automaton_of(&self, i: usize) -> Option<u8>
+        ensures { result ≡ option_map (λ t. t.automaton) (slice_get (decode self.now.bytes.now).transitions i) }
+    {
+        Some(self.transition(i)?.automaton)
+    }
+
+    // The source of transition i.
+    pub fn source(&self, i: usize) -> Option<u8>
+        ensures { result ≡ option_map (λ t. t.source) (slice_get (decode self.now.bytes.now).transitions i) }
+    {
+        Some(self.transition(i)?.source)
+    }
+
+    // The target of transition i.
+    pub fn target(&self, i: usize) -> Option<u8>
+        ensures { result ≡ option_map (λ t. t.target) (slice_get (decode self.now.bytes.now).transitions i) }
+    {
+        Some(self.transition(i)?.target)
+    }
+
+    // The signals that transition i needs.
+    pub fn needed(&self, i: usize) -> Option<u64>
+        ensures { result ≡ option_map (λ t. t.needed) (slice_get (decode self.now.bytes.now).transitions i) }
+    {
+        Some(self.transition(i)?.needed)
+    }
+
+    // The signals that transition i forbids.
+    pub fn forbidden(&self, i: usize) -> Option<u64>
+        ensures { result ≡ option_map (λ t. t.forbidden) (slice_get (decode self.now.bytes.now).transitions i) }
+    {
+        Some(self.transition(i)?.forbidden)
+    }
+
+    // The signals that transition i emits.
+    pub fn emitted(&self, i: usize) -> Option<u64>
+        ensures { result ≡ option_map (λ t. t.emitted) (slice_get (decode self.now.bytes.now).transitions i) }
+    {
+        Some(self.transition(i)?.emitted)
+    }
+
+    // The amount of transition i.
+    pub fn amount(&self, i: usize) -> Option<u32>
+        ensures { result ≡ option_map (λ t. t.amount) (slice_get (decode self.now.bytes.now).transitions i) }
+    {
+        Some(self.transition(i)?.amount)
     }
 
     // The signals, in file order.

@@ -44,7 +44,7 @@ module _ (bs : List ℕ) (h : Layout bs) (states : List (Option ℕ)) (held : St
       subst P (add-one n) (omega (arith, text, sum))
 
 -- the states of a chart are at most 67 bytes long
-states_short : (bs : List ℕ) → ∥ Layout bs ∥₁ → (states : List (Option ℕ)) → StatesWithin (decode bs) states → length (states_text (decode bs) states) ≤ 67
+pub states_short : (bs : List ℕ) → ∥ Layout bs ∥₁ → (states : List (Option ℕ)) → StatesWithin (decode bs) states → length (states_text (decode bs) states) ≤ 67
 states_short bs t states held = ∥∥₁_elim t le_prop (λ h.
     let few = h.few_automata in
     let together = h.together in

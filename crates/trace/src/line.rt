@@ -107,20 +107,19 @@ impl Line<'_, '_, '_> {
         }
     }
 
-    // The whole line.
+    // The whole line, into an empty text of the caller's: answered by value, it would be copied.
     #[tactic(auto, unfolding(crate::specs::Line::line_of))]
-    fn text(&self) -> Text
-        ensures told { result.bytes ≡ told_line self.now }
-        ensures short { array_string_len result ≤ length (decimal self.now.count) + 1284 + length (states_text (chart_of self.now) self.now.after.now.states) }
+    fn compose(&self, text: &mut Text)
+        requires { text.old.bytes ≡ [] }
+        ensures told { text.new.bytes ≡ told_line self.now }
+        ensures short { array_string_len text.new ≤ length (decimal self.now.count) + 1284 + length (states_text (chart_of self.now) self.now.after.now.states) }
     {
-        let mut text = Text::new();
-        push_number(&mut text, self.count);
+        push_number(text, self.count);
         text.push_str(":");
-        self.push_signals(&mut text);
+        self.push_signals(text);
         text.push_str(" /");
-        self.push_states(&mut text);
+        self.push_states(text);
         text.push_str("\n");
-        text
     }
 
     // How long the line is.
@@ -129,7 +128,9 @@ impl Line<'_, '_, '_> {
         ensures exact { result ≡ length (told_line self.now) }
         ensures longest { self.now.count ≤ 1000000 → StatesWithin (chart_of self.now) self.now.after.now.states → result ≤ 1358 }
     {
-        self.text().len()
+        let mut text = Text::new();
+        self.compose(&mut text);
+        text.len()
     }
 
     // Writes the line at the front of a buffer, if it fits.
@@ -137,7 +138,8 @@ impl Line<'_, '_, '_> {
         ensures answer { result ≡ write_answer (told_line self.now) (length buffer.old) }
         ensures after { buffer.new ≡ write_buffer (told_line self.now) buffer.old }
     {
-        let text = self.text();
+        let mut text = Text::new();
+        self.compose(&mut text);
         let length = text.len();
         if buffer.len() < length {
             return Err(InstantFault::LongLine(length));
@@ -152,6 +154,8 @@ impl fmt::Display for Line<'_, '_, '_> {
     ghost output = { λ x. Some (told_line x) };
 
     fn fmt<W: fmt::Write>(&self, f: &mut fmt::Formatter<W>) -> fmt::Result {
-        f.write_str(self.text().as_str())
+        let mut text = Text::new();
+        self.compose(&mut text);
+        f.write_str(text.as_str())
     }
 }

@@ -5,6 +5,20 @@ use Rattle.chart.specs.declared.fault.ChartFault.TheVariants.{BrokenAutomaton, B
 use Rattle.chart.proofs.Sections.{section_ok}
 use Rattle.chart.proofs.check.walk.Goals as goal
 
+pub automata_within-within-requires : goal.automata_within-within-requires
+automata_within-within-requires c =
+    let bs = c.args.bytes.now in
+    let is : c.check_section.result ≡ section 1 64 10 (signal_good bs) BrokenSignal bs 0 = c.check_section.ensures (signal_good bs) BrokenSignal (λ n a h. search rules) (λ n a h. search rules) in
+    let signals = section_ok 1 64 10 (signal_good bs) BrokenSignal bs 0 c.in_ok-automata.automata (sym is ∙ c.in_ok-automata.was) in
+    omega (arith, signals.0, signals.1.few)
+
+pub inputs_of-inputs-requires : goal.inputs_of-inputs-requires
+inputs_of-inputs-requires c =
+    let bs = c.args.bytes.now in
+    let is : c.check_section.result ≡ section 1 64 10 (signal_good bs) BrokenSignal bs 0 = c.check_section.ensures (signal_good bs) BrokenSignal (λ n a h. search rules) (λ n a h. search rules) in
+    let signals = section_ok 1 64 10 (signal_good bs) BrokenSignal bs 0 c.in_ok-automata.automata (sym is ∙ c.in_ok-automata.was) in
+    (signals.1.whole, signals.1.few)
+
 pub check_section-requires-2 : goal.check_section-requires-2
 check_section-requires-2 c =
     let bs = c.args.bytes.now in
